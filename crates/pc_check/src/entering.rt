@@ -11,6 +11,7 @@ ghost use Rattle.pc_class.specs.Facts.{parameters_of};
 ghost use Rattle.pc_flow.specs.Stored.{env_of};
 ghost use Rattle.pc_notes.specs.Notes.{notes_of};
 ghost use Rattle.pc_rules.specs.Computed.Checkers.{CheckerKept as CheckerGoesOn};
+ghost use Rattle.pc_rules.specs.Computed.ModuleParents.{class_parents};
 ghost use Rattle.pc_module_rules.specs.Modules.{receiver_parameter};
 ghost use Rattle.pc_module_rules.specs.Computed.Statements.{body_context_of, function_finds, enter_parameters};
 ghost use Rattle.pc_module_rules.specs.Computed.Statements.{enter_name};
@@ -108,7 +109,7 @@ fn find_end<S: TypeStore>(
 ) -> Result<(), OutOfMemory>
     requires { S.has walk.old.store.now walk.old.context.returned.now }
     ensures pushed { OnOk result (notes_of walk.new.found.now ≡ notes_of walk.old.found.now
-        ++ end_finds walk.old.context.globals.now.outline.now.parents.now (S.tree walk.old.context.returned.now) name
+        ++ end_finds (class_parents walk.old.context.globals.now) (S.tree walk.old.context.returned.now) name
         (option_map (env_of S.tree) out.now)) }
     ensures goes_on { WalkKept S.TypeStore walk.old walk.new }
 {

@@ -8,6 +8,7 @@ ghost use Rattle.pc_tree.specs.Tree.{expr_of, name_of, stmt_of, stmt_of_kind, st
 ghost use Rattle.pc_tree.specs.Tree.{no_branches};
 ghost use Rattle.pc_tree.specs.Lists.{branches_of_list, with_branch};
 ghost use Rattle.pc_flow.specs.Stored.{env_of};
+ghost use Rattle.pc_rules.specs.Computed.ModuleParents.{class_parents};
 ghost use Rattle.pc_module_rules.specs.Computed.Statements.{step, walk_suite, walk_branches, behind_branches};
 ghost use Rattle.pc_walk.specs.Touched.{touched_by, touched_by_branches, touched_by_stmt};
 ghost use Rattle.pc_walk.specs.Walks.{Stands, HoldsWay, WalkKept};
@@ -244,7 +245,7 @@ fn check_otherwise<S: TypeStore>(
 ) -> Result<Option<Env<S::Ty>>, OutOfMemory>
     requires stands { StandsIn S.TypeStore walk.old (Some fork.last) exit.old.env }
     requires ways { HoldsWay S.TypeStore walk.old fork.ways.met }
-    requires settled { ForkSettles walk.old.context.globals.now.outline.now.parents.now fork.ways.unsettled.items
+    requires settled { ForkSettles (class_parents walk.old.context.globals.now) fork.ways.unsettled.items
         (forked S.TypeStore walk.old fork.last fork.ways.met exit.old.env) }
     requires breaks { ExitSubsumes S.TypeStore walk.old exit.old.unsettled.items (Some fork.last) exit.old.env }
     ensures breaks { OnOk result (StaysSettled S.TypeStore walk.old walk.new
@@ -283,7 +284,7 @@ fn check_branches<S: TypeStore>(
         (λ k. ExitSubsumes S.TypeStore walk.new exit.new.unsettled.items (Some k.last) exit.new.env) }
     ensures walked { IfOk result (λ k. Forked S.TypeStore walk.old env None exit.old.env walk.new k.last k.ways.met
         exit.new.env (λ f b. walk_branches f b (branches_of_list branches.now))) }
-    ensures settled { IfOk result (λ k. ForkSettles walk.new.context.globals.now.outline.now.parents.now
+    ensures settled { IfOk result (λ k. ForkSettles (class_parents walk.new.context.globals.now)
         k.ways.unsettled.items (forked S.TypeStore walk.new k.last k.ways.met exit.new.env)) }
     ensures goes_on { WalkKept S.TypeStore walk.old walk.new }
 {
@@ -312,7 +313,7 @@ fn check_branch<S: TypeStore>(
 ) -> Result<IfState<S::Ty>, OutOfMemory>
     requires stands { StandsIn S.TypeStore walk.old (Some fork.last) exit.old.env }
     requires ways { HoldsWay S.TypeStore walk.old fork.ways.met }
-    requires settled { ForkSettles walk.old.context.globals.now.outline.now.parents.now fork.ways.unsettled.items
+    requires settled { ForkSettles (class_parents walk.old.context.globals.now) fork.ways.unsettled.items
         (forked S.TypeStore walk.old fork.last fork.ways.met exit.old.env) }
     requires breaks { ExitSubsumes S.TypeStore walk.old exit.old.unsettled.items (Some fork.last) exit.old.env }
     ensures breaks { OnOk result (StaysSettled S.TypeStore walk.old walk.new
@@ -322,7 +323,7 @@ fn check_branch<S: TypeStore>(
         (λ k. ExitSubsumes S.TypeStore walk.new exit.new.unsettled.items (Some k.last) exit.new.env) }
     ensures walked { IfOk result (λ k. Forked S.TypeStore walk.old fork.last fork.ways.met exit.old.env walk.new k.last
         k.ways.met exit.new.env (λ f b. walk_branches f b (with_branch branch.now no_branches))) }
-    ensures settled { IfOk result (λ k. ForkSettles walk.new.context.globals.now.outline.now.parents.now
+    ensures settled { IfOk result (λ k. ForkSettles (class_parents walk.new.context.globals.now)
         k.ways.unsettled.items (forked S.TypeStore walk.new k.last k.ways.met exit.new.env)) }
     ensures goes_on { WalkKept S.TypeStore walk.old walk.new }
 {

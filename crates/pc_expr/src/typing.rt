@@ -11,6 +11,7 @@ ghost use Rattle.pc_rules.specs.Computed.Findings.{flows_at};
 ghost use Rattle.pc_rules.specs.Computed.Standing.{standing_of, label_in, finds_in, parts_find};
 ghost use Rattle.pc_expr.specs.Internal.Forms.{IsUnary, IsBinary, IsConnective};
 ghost use Rattle.pc_rules.specs.Computed.Checkers.{AddsNotes, CheckerKept, HoldsIfAny, IsLabel, Stands};
+ghost use Rattle.pc_rules.specs.Computed.ModuleParents.{class_parents};
 
 use crate::calls::type_call;
 use crate::conditions::type_condition;
@@ -78,7 +79,7 @@ pub(crate) fn type_seated<S: TypeStore>(
     ensures found { OnOk result (AddsNotes checker.old checker.new
         (finds_in (standing_of S.tree setting.now env.now) (option_map S.tree seat.now.want) (expr_of e.now)
         ++ flows_at (place_of (expr_of e.now))
-        (flows_of setting.now.globals.now.outline.now.parents.now (label_in (standing_of S.tree setting.now env.now)
+        (flows_of (class_parents setting.now.globals.now) (label_in (standing_of S.tree setting.now env.now)
         (option_map S.tree seat.now.want) (expr_of e.now)) (map S.tree seat.now.into.items)))) }
     ensures goes_on { CheckerKept S.TypeStore checker.old checker.new }
 {

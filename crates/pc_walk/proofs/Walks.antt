@@ -8,6 +8,7 @@ use Rattle.pc_flow.proofs.Given.{keeps_both}
 use Rattle.pc_notes.specs.declared.notes.NoteEntry.{NoteEntry}
 use Rattle.pc_notes.specs.Notes.{Note, notes_of}
 use Rattle.pc_rules.specs.Computed.Standing.{Standing}
+use Rattle.pc_rules.specs.Computed.ModuleParents.{class_parents}
 use Rattle.pc_module_rules.specs.Computed.Statements.{BodyContext, BindingResult, DeclaredTypes, standing_here}
 use Rattle.pc_walk.specs.declared.context.BodyContext.{BodyContext as RustBodyContext}
 use Rattle.pc_walk.specs.StatementsHeld.{body_context_with, HoldsContext, HoldsType, HoldsTypeIfAny, HoldsTypes}
@@ -57,27 +58,27 @@ module _ {Store Ty : Type 0} (S : StoreOf Store Ty) (old new : Walk Store Ty) wh
   -- a type that the walk held it holds later
   pub one_kept : (ty : Ty) → WalkKept S old new → HoldsOne S old ty → HoldsOne S new ty
   one_kept ty g h = in_body_context (λ (f : RustBodyContext Ty). HoldsType (S.has new.store.now) S.tree
-      f.globals.now.outline.now.parents.now ty) g
-      (type_kept S.has S.tree old.context.globals.now.outline.now.parents.now old.store.now new.store.now g.kept ty h)
+      (class_parents f.globals.now) ty) g
+      (type_kept S.has S.tree (class_parents old.context.globals.now) old.store.now new.store.now g.kept ty h)
 
   -- likewise an environment
   pub env_kept : (env : List (Option Ty)) → WalkKept S old new → HoldsEnv S old env → HoldsEnv S new env
   env_kept env g h = in_body_context (λ (f : RustBodyContext Ty). HoldsTypes (S.has new.store.now) S.tree
-      f.globals.now.outline.now.parents.now env) g
-      (types_kept S.has S.tree old.context.globals.now.outline.now.parents.now old.store.now new.store.now g.kept env h)
+      (class_parents f.globals.now) env) g
+      (types_kept S.has S.tree (class_parents old.context.globals.now) old.store.now new.store.now g.kept env h)
 
   -- likewise one that there may be
   pub way_kept : (way : Option (List (Option Ty))) → WalkKept S old new → HoldsWay S old way → HoldsWay S new way
   way_kept way g h = in_body_context (λ (f : RustBodyContext Ty). HoldsTypesIfAny (S.has new.store.now) S.tree
-      f.globals.now.outline.now.parents.now way) g
-      (types_kept_if_any S.has S.tree old.context.globals.now.outline.now.parents.now old.store.now new.store.now g.kept
+      (class_parents f.globals.now) way) g
+      (types_kept_if_any S.has S.tree (class_parents old.context.globals.now) old.store.now new.store.now g.kept
       way h)
 
   -- likewise a type that there may be
   pub want_kept : (want : Option Ty) → WalkKept S old new → HoldsWant S old want → HoldsWant S new want
   want_kept want g h = in_body_context (λ (f : RustBodyContext Ty). HoldsTypeIfAny (S.has new.store.now) S.tree
-      f.globals.now.outline.now.parents.now want) g
-      (type_kept_if_any S.has S.tree old.context.globals.now.outline.now.parents.now old.store.now new.store.now g.kept
+      (class_parents f.globals.now) want) g
+      (type_kept_if_any S.has S.tree (class_parents old.context.globals.now) old.store.now new.store.now g.kept
       want h)
 
   -- an environment has the same meaning after a step

@@ -11,6 +11,7 @@ use Rattle.pc_class.proofs.WellFormed.{params_well_formed}
 use Rattle.pc_flow.specs.Environment.{Env, none_assigned}
 use Rattle.pc_flow.specs.Stored.{env_of}
 use Rattle.pc_notes.specs.Notes.{Note, notes_of}
+use Rattle.pc_rules.specs.Computed.ModuleParents.{class_parents}
 use Rattle.pc_module_rules.specs.Computed.Statements.{BindingResult, BodyContext, DeclaredTypes, end_finds, enter_parameters}
 use Rattle.pc_module_rules.specs.Computed.Statements.{walk_suite}
 use Rattle.pc_module_rules.specs.Modules.{receiver_parameter}
@@ -28,7 +29,7 @@ pub enter_receiver-requires : goal.enter_receiver-requires
 enter_receiver-requires g c =
     let S = g.S.TypeStore in
     let w = c.args.walk.now in
-    let none = none_holds (S.has w.store.now) S.tree w.context.globals.now.outline.now.parents.now c.args.count in
+    let none = none_holds (S.has w.store.now) S.tree (class_parents w.context.globals.now) c.args.count in
     record {
       context = c.requires.context;
       declared = rw c.requires.declared none;
@@ -45,15 +46,15 @@ enter-requires-clause-params g c =
     let m = module_of old.context.globals.now.outline.now.tree.now in
     let given = All-weaker (HasParameter (S.has old.store.now)) (HasParameter (S.has new.store.now))
     (λ p h. on.kept p.ty h) params c.requires.given in
-    let bases : bases_of m ≡ old.context.globals.now.outline.now.parents.now =
+    let bases : bases_of m ≡ (class_parents old.context.globals.now) =
     sym (ap (λ (x : BodyContext). x.context.bases) c.requires.body) in
     let well_formed = subst (λ bases. ParametersWellFormed bases (parameters_with S.tree params)) bases
     (subst (ParametersWellFormed (bases_of m)) (sym c.requires.params)
     (params_well_formed m (func_of c.args.def.now).params))
     in
     in_body_context S old new (λ (f : RustBodyContext _). All (λ p. HoldsType (S.has new.store.now) S.tree
-    f.globals.now.outline.now.parents.now
-    p.ty) params) on (parameters_hold (S.has new.store.now) S.tree old.context.globals.now.outline.now.parents.now
+    (class_parents f.globals.now)
+    p.ty) params) on (parameters_hold (S.has new.store.now) S.tree (class_parents old.context.globals.now)
     params given well_formed)
 
 pub check_suite-requires-clause-stands : goal.check_suite-requires-clause-stands
