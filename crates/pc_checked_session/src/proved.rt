@@ -65,8 +65,9 @@ impl Checker for Proved {
         let report = match check(alloc, text.as_bytes()) {
             Ok(report) => report,
             Err(CheckFault::Refused(refusal)) => return Ok(CheckOutcome::Refused(refusal)),
+            // No device is read or written here, so an allocation failed.
             Err(CheckFault::OutOfMemory | CheckFault::Read | CheckFault::Write) => {
-                return Err(OutOfMemory);
+                return Err(OutOfMemory::from(AllocError));
             }
         };
         Ok(CheckOutcome::Items(items_of(alloc, report.rows())?))

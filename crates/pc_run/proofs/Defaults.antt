@@ -176,7 +176,7 @@ class_unbased c w s h = ap (λ b. and_then (comes b w) (from_base c)) h
 pub unbased : (c : ClassDef) (m : Machine) (x : Halt) → TellsOutcome base_seen (Err x) (base_number c.base (state_of m))
     → TellsProgress unit (Err x) m (class_made true c (progress_of m))
 unbased c m (Stopped s) h = class_unbased c (progress_of m) (stop_of s) h
-unbased c m NoMemory h = tt
+unbased c m (NoMemory error) h = tt
 
 class_based : (c : ClassDef) (w : Progress) (base : Option ℕ) → base_number c.base w.state ≡ Gives base
     → class_made true c w ≡ from_base c base w

@@ -27,7 +27,7 @@ use Rattle.pc_machine.specs.Machine.{TellsProgress, unit, flow_of, value_if_any}
 pub ends : {A B C D : Type 0} (va : A → B) (vc : C → D) (x : Halt) (m : Machine) (l : After B) (f : B → Step D)
     → TellsProgress va (Err x) m l → TellsProgress vc (Err x) m (and_then l f)
 ends va vc (Stopped s) m l f h = rw h refl
-ends va vc OutOfMemory m l f h = tt
+ends va vc (OutOfMemory error) m l f h = tt
 
 -- an early end of something that is something else
 pub ends_as : {A B : Type 0} (v : A → B) (x : Halt) (m : Machine) (l k : After B) → k ≡ l → TellsProgress v (Err x) m l

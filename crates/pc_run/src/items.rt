@@ -262,10 +262,8 @@ fn bind_class<'m>(
     ensures fuel { machine.new.fuel ≡ machine.old.fuel }
 {
     let number = machine.classes.len();
-    match machine.classes.push(class) {
-        Ok(()) => bind_global(machine, name, Bound::Class(number)),
-        Err(_) => Err(OutOfMemory),
-    }
+    machine.classes.push(class)?;
+    bind_global(machine, name, Bound::Class(number))
 }
 
 /// Makes a class: `@dataclass`, the base, the defaults, the order of its fields.
