@@ -16,7 +16,7 @@ ghost use Rattle.pc_parse.specs.Internal.Annotations.{KeepsAnn, KeepsAnns, Makes
 ghost use Rattle.pc_parse.specs.Internal.Annotations.{ReadsApplied};
 
 use crate::parser::Parser;
-use pc_reader::{Reader, depth_above, deeper};
+use pc_reader::{Reader, deeper, depth_above};
 use pc_source::{Fault, Place};
 use pc_token::{Keyword, Operator, Token, TokenKind};
 use pc_tree::{Ann, Name, put_last};

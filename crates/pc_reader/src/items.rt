@@ -9,7 +9,7 @@ ghost use Rattle.pc_grammar.specs.Machine.States.{Part};
 ghost use Rattle.pc_reader.specs.Internal.Operands.{KeepsPart, Builds};
 ghost use Rattle.pc_reader.specs.Internal.Brackets.{KeepsItems, KeepsEntries, KeepsKeywords};
 
-use crate::operand::{Operand, depth_above, deeper, kept, node};
+use crate::operand::{Operand, deeper, depth_above, kept, node};
 use pc_source::{Fault, Place};
 use pc_tree::{Entry, Expr, KeywordArgument, Name, put_last};
 use std::alloc::Global;
@@ -188,7 +188,10 @@ pub(crate) fn called(
         start: callee.start,
         end,
     };
-    let depth = deeper(depth_above(callee.depth), deeper(items.depth, keywords.depth));
+    let depth = deeper(
+        depth_above(callee.depth),
+        deeper(items.depth, keywords.depth),
+    );
     let inner = Box::new(alloc, kept(depth, callee.expr, place))?;
     if depth > 64 {
         return Ok(node(

@@ -14,7 +14,7 @@ use crate::published::published;
 use crate::replies::{log, publish};
 use crate::requests::named;
 use crate::session::{Answer, Session, SessionChange, Stage};
-use crate::settings::{is_python, copied_text};
+use crate::settings::{copied_text, is_python};
 use pc_documents::{Checker, Document, index_of_document};
 use pc_source::OutOfMemory;
 use serde_json::Value;

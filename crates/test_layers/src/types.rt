@@ -1,5 +1,5 @@
 //! Types as annotations spell them, in both stores.
-use crate::questions::{Question, store_answer, built_type_text};
+use crate::questions::{Question, built_type_text, store_answer};
 use pc_annotations::{ModuleOutline, parents_of};
 use pc_front::read_module;
 use pc_intern::InternStore;
