@@ -21,7 +21,7 @@ use Rattle.pc_rules.specs.Labels.{FlowLabels, Labels, ItemsLabels, EntriesLabels
 use Rattle.pc_rules.specs.Labels.{is_of_scopes, second_place}
 use Rattle.pc_rules.specs.Computed.Expressions.{labels_of, flows_of}
 use Rattle.pc_rules.specs.Computed.Findings.{own_at, has_code, once, own_flow, flow_then, flows_behind, codes_at}
-use Rattle.pc_rules.specs.Computed.Findings.{flows_at, notes_of_code, type_noted, label_at, shows, whole, callee_notes}
+use Rattle.pc_rules.specs.Computed.Findings.{flows_at, notes_of_code, note_of_type, label_at, shows, whole, callee_notes}
 use Rattle.pc_rules.specs.Computed.Findings.{found_in_parts, found_in_items, found_in_arguments, found_in_entries}
 use Rattle.pc_rules.specs.Computed.Findings.{found_in_keywords, notes_under}
 use Rattle.pc_rules.specs.Computed.Standing.{Standing, label_in, finds_in, items_in, keywords_in, arguments_find}
@@ -83,12 +83,12 @@ flows_nameless p flows = each_flow p flows []
 -- ---- expressions
 
 module _ (keeps : Test) where
-  type_nameless : (kept shown : Test) (p : Place) (t : Tree) → AreNameless (type_noted kept shown p t)
+  type_nameless : (kept shown : Test) (p : Place) (t : Tree) → AreNameless (note_of_type kept shown p t)
   type_nameless false shown p t = no_notes
   type_nameless true shown p t = record { are = refl }
 
   label_nameless : (shown : Test) (p : Place) (m : Label) → AreNameless (label_at keeps shown p m)
-  label_nameless shown p m = nameless_both (type_noted keeps shown p m.type) (codes_at p m.codes)
+  label_nameless shown p m = nameless_both (note_of_type keeps shown p m.type) (codes_at p m.codes)
       (type_nameless keeps shown p m.type) (codes_nameless p m.codes)
 
   whole_nameless : (e : Expr) (m : Labels e) (parts : List Note) → AreNameless parts

@@ -86,9 +86,9 @@ abbrev pub flows_at : Place → FlowLabels → List Note
 flows_at p flows = flows_behind p [] flows
 
 -- the note of the type of a label at its place, if types are kept
-abbrev pub type_noted : (keeps shown : Test) → Place → Tree → List Note
-type_noted false shown p t = []
-type_noted true shown p t = typed shown p t ∷ []
+abbrev pub note_of_type : (keeps shown : Test) → Place → Tree → List Note
+note_of_type false shown p t = []
+note_of_type true shown p t = typed shown p t ∷ []
 
 -- notes with that of a bound name at its place after them, if types are kept: its declared type, and its current type
 -- after the binding, if it has a value then
@@ -98,7 +98,7 @@ name_after true found p d t = found ++ named p d t ∷ []
 
 -- the notes of a label at its place: its type, if types are kept, and then the findings of its codes
 abbrev pub label_at : (keeps shown : Test) → Place → Label → List Note
-label_at keeps shown p m = type_noted keeps shown p m.type ++ codes_at p m.codes
+label_at keeps shown p m = note_of_type keeps shown p m.type ++ codes_at p m.codes
 
 -- whether the type of a callee is shown: not for a name or an attribute
 abbrev pub shows : Expr → Test
