@@ -57,7 +57,7 @@ class CheckNames(Case):
         both = "IsSent is in 2 places: pc_a/specs/More.antt, pc_a/specs/Sent.antt"
         names, places = self.found(self.ONE, self.TWO, Sent=record, More="abbrev pub IsSent : ℕ → Type 0\n")
         self.assertEqual(list(names.faults_of(places, [])), [both])
-        self.assertEqual(list(names.faults_of(places, [names.Group("a reason", {"IsSent": 2})], {})), [])
+        self.assertEqual(list(names.faults_of(places, [names.Group("a reason", {"IsSent": 2})])), [])
 
     def test_fields_constructors_and_private_definitions_are_left_out(self) -> None:
         record = "pub record Sent : Type 0 where\n  pub told : ℕ\n\nabbrev pub other : ℕ\n"
