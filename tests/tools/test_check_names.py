@@ -27,13 +27,13 @@ class CheckNames(Case):
     def faults(self, one: str = ONE, two: str = TWO, **specs: str) -> List[str]:
         """Returns the faults if `shared` may be in two places for a reason."""
         names, places = self.found(one, two, **specs)
-        return list(names.faults_of(places, [names.Group("a reason", {"shared": 2})], {}))
+        return list(names.faults_of(places, [names.Group("a reason", {"shared": 2})]))
 
     def defined(self, text: str, head: str = "") -> List[str]:
         """Returns the faults beside a file of definitions, if no name is listed. The first module begins with these
         lines."""
         names, places = self.found(head + self.ONE, self.TWO, Inner_Kinds=text)
-        return list(names.faults_of(places, [], {}))
+        return list(names.faults_of(places, []))
 
     def test_names_of_one_module_and_methods_are_no_fault(self) -> None:
         self.assertEqual(self.faults(self.ONE + SHARED, self.TWO + SHARED), [])
@@ -56,8 +56,8 @@ class CheckNames(Case):
         record = "pub record IsSent : Type 0 where\n  pub at : ℕ\n"
         both = "IsSent is in 2 places: pc_a/specs/More.antt, pc_a/specs/Sent.antt"
         names, places = self.found(self.ONE, self.TWO, Sent=record, More="abbrev pub IsSent : ℕ → Type 0\n")
-        self.assertEqual(list(names.faults_of(places, [], {})), [both])
-        self.assertEqual(list(names.faults_of(places, [names.Group("a reason", {"IsSent": 2})], {})), [])
+        self.assertEqual(list(names.faults_of(places, [])), [both])
+        self.assertEqual(list(names.faults_of(places, [names.Group("a reason", {"IsSent": 2})])), [])
 
     def test_fields_constructors_and_private_definitions_are_left_out(self) -> None:
         record = "pub record Sent : Type 0 where\n  pub told : ℕ\n\nabbrev pub other : ℕ\n"
@@ -87,7 +87,7 @@ class CheckNames(Case):
         self.assertEqual(self.defined(used % "ThatKind" + record), two)
         beside = used % "RustKind" + "use Rattle.pc_a.specs.Inner.Kinds.{Kind}\n"
         names, places = self.found(self.ONE, self.TWO, Inner_Kinds=record, Beside=beside)
-        self.assertEqual(list(names.faults_of(places, [], {})), [])
+        self.assertEqual(list(names.faults_of(places, [])), [])
 
     def test_a_shared_name_is_in_as_many_places_as_are_listed(self) -> None:
         self.assertEqual(self.faults(), ["shared is in 0 places, and 2 are listed: "])
@@ -98,26 +98,8 @@ class CheckNames(Case):
     def test_a_reason_is_for_two_places_at_least_and_is_given_once(self) -> None:
         names, places = self.found(self.ONE, self.TWO)
         groups = [names.Group("a reason", {"told": 1}), names.Group("another", {"told": 1})]
-        self.assertEqual(list(names.faults_of(places, groups, {})),
+        self.assertEqual(list(names.faults_of(places, groups)),
                          ["told is listed twice", "told is in 1 places, and 1 are listed: pc_a"])
-
-    def test_a_name_with_two_meanings_is_allowed_where_it_is_to_be_renamed(self) -> None:
-        names, places = self.found(self.ONE + SHARED, self.TWO + SHARED, Third="abbrev pub shared : ℕ\n")
-        third = {"pc_a/specs/Third.antt": ("third", "something else")}
-        left = ["shared is in 2 places: pc_a, pc_b::inner"]
-        self.assertEqual(list(names.faults_of(places, [], {"shared": names.Alike("a meaning", third)})), left)
-        both = {**third, "pc_b::inner": ("second", "another one")}
-        self.assertEqual(list(names.faults_of(places, [], {"shared": names.Alike("a meaning", both)})), [])
-        groups = [names.Group("a reason", {"shared": 2})]
-        self.assertEqual(list(names.faults_of(places, groups, {"shared": names.Alike("a meaning", third)})), [])
-
-    def test_a_name_to_be_renamed_is_there_and_somewhere_else_too(self) -> None:
-        names, places = self.found(self.ONE, self.TWO)
-        alike = {"told": names.Alike("a meaning", {"pc_a": ("said", "another one")}),
-                 "kept": names.Alike("a meaning", {"pc_a": ("held", "another one")})}
-        self.assertEqual(list(names.faults_of(places, [], alike)),
-                         ["kept is not at pc_a", "kept means two things only where it is to be renamed",
-                          "told means two things only where it is to be renamed"])
 
     def test_what_is_wrong_fails(self) -> None:
         self.faults(two=self.TWO + "pub struct Kind;\n")

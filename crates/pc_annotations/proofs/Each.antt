@@ -14,7 +14,7 @@ use Rattle.pc_types.specs.Shape.{nodes, nodes_of, node_limit, trees}
 use Rattle.pc_types.specs.Head.{head_of}
 use Rattle.pc_types.specs.Store.{KeepsTypes, MeansWithin}
 use Rattle.pc_types.specs.declared.head.Head.{Head}
-use Rattle.pc_annotations.specs.Annotations.{reading, readings}
+use Rattle.pc_annotations.specs.Annotations.{reading, read_anns}
 use Rattle.pc_annotations.specs.Listed.{anns_of_list, part_findings, parts_findings}
 use Rattle.pc_annotations.specs.Internal.TypesRead.{IsRead, AreRead, with_one}
 
@@ -55,7 +55,7 @@ module _ {Store Ty : Type 0} (has : Store → Ty → Type 0) (tree : Ty → Tree
   }
 
 module _ (m : Module) (bases : Bases) where
-  readings_push : (xs : List RustAnn) (x : RustAnn) → readings m bases (anns_of_list (xs ++ x ∷ [])) ≡ readings m bases
+  readings_push : (xs : List RustAnn) (x : RustAnn) → read_anns m bases (anns_of_list (xs ++ x ∷ [])) ≡ read_anns m bases
       (anns_of_list xs) ++ reading m bases (ann_of x) ∷ []
   readings_push [] x = refl
   readings_push (y ∷ xs) x = ap (λ l. reading m bases (ann_of y) ∷ l) (readings_push xs x)
@@ -74,9 +74,9 @@ module _ (m : Module) (bases : Bases) where
 
   -- the types of one part more
   pub readings_more : (xs : List RustAnn) (k : ℕ) (x : RustAnn) → k < length xs → x ≡ get_or xs k x
-      → readings m bases (anns_of_list (take (k + 1) xs)) ≡ readings m bases (anns_of_list (take k xs))
+      → read_anns m bases (anns_of_list (take (k + 1) xs)) ≡ read_anns m bases (anns_of_list (take k xs))
       ++ reading m bases (ann_of x) ∷ []
-  readings_more xs k x h e = ap (λ l. readings m bases (anns_of_list l)) (next_is xs k x h e)
+  readings_more xs k x h e = ap (λ l. read_anns m bases (anns_of_list l)) (next_is xs k x h e)
       ∙ readings_push (take k xs) x
 
   -- the findings of one part more

@@ -17,7 +17,7 @@ use Rattle.pc_scope.specs.Resolution.{resolve_in_module}
 use Rattle.pc_types.specs.Tree.{Tree}
 use Rattle.pc_types.specs.Below.{Bases}
 use Rattle.pc_types.specs.Shape.{nodes, node_limit}
-use Rattle.pc_annotations.specs.Annotations.{named_type, applied_type, empty_type, union_type, reading, readings, PartFinds}
+use Rattle.pc_annotations.specs.Annotations.{named_type, applied_type, empty_type, union_type, reading, read_anns, PartFinds}
 use Rattle.pc_annotations.specs.Annotations.{PartsFind, IsTooLarge, AnnFinds, OptionAnnFinds}
 use Rattle.pc_annotations.specs.Listed.{without_type, inside_type, part_findings, parts_findings, ann_findings, option_findings}
 use Rattle.pc_annotations.specs.Listed.{AnnFindingsAreListed, OptionalFindingsAreListed}
@@ -58,11 +58,11 @@ module _ (m : Module) (bases : Bases) (f : Finding) where
     in_part (named n) = without (named_type m.imports_any (resolve_in_module m n.text)) n.place E09 f
     in_part (none_type p) = (in_none, λ e. absurd e)
     in_part (applied p head arguments) = inside (applied_type (resolve_in_module m head.text)
-        (readings m bases arguments)) p (parts_findings m bases arguments) f (in_parts arguments)
+        (read_anns m bases arguments)) p (parts_findings m bases arguments) f (in_parts arguments)
     in_part (applied_empty p head) = without (empty_type (resolve_in_module m head.text)) p E09 f
     in_part (tree.union p parts) =
-        swapped (in_both (parts_findings m bases parts) (without_type (union_type bases (readings m bases parts)) p E10)
-        f (in_parts parts) (without (union_type bases (readings m bases parts)) p E10 f))
+        swapped (in_both (parts_findings m bases parts) (without_type (union_type bases (read_anns m bases parts)) p E10)
+        f (in_parts parts) (without (union_type bases (read_anns m bases parts)) p E10 f))
 
     in_parts : (as' : Anns) → Contains (parts_findings m bases as') f ↔ PartsFind m bases as' f
     in_parts no_anns = (in_none, λ e. absurd e)

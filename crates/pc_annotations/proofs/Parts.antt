@@ -12,7 +12,7 @@ use Rattle.pc_scope.specs.Resolution.{resolve_in_module}
 use Rattle.pc_types.specs.Tree.{Tree, Any}
 use Rattle.pc_types.specs.Below.{Bases}
 use Rattle.pc_types.specs.declared.head.Head.{Head}
-use Rattle.pc_annotations.specs.Annotations.{applied_type, union_type, reading, readings}
+use Rattle.pc_annotations.specs.Annotations.{applied_type, union_type, reading, read_anns}
 use Rattle.pc_annotations.specs.Listed.{without_type, inside_type, part_findings, parts_findings}
 use Rattle.pc_annotations.specs.Internal.TypesRead.{IsRead, IsReadAny}
 
@@ -40,24 +40,24 @@ module _ {Store Ty : Type 0} (has : Store → Ty → Type 0) (tree : Ty → Tree
 
 module _ (m : Module) (bases : Bases) where
   pub applied_reading : (a : Ann) (p : Place) (n : Name) (anns : Anns) (r : NameMeaning) (f : Option Tree)
-      → a ≡ applied p n anns → r ≡ resolve_in_module m n.text → applied_type r (readings m bases anns) ≡ f
+      → a ≡ applied p n anns → r ≡ resolve_in_module m n.text → applied_type r (read_anns m bases anns) ≡ f
       → reading m bases a ≡ unwrap_or f Any
   applied_reading a p n anns r f e h k = ap (reading m bases) e
-      ∙ ap (λ x. unwrap_or (applied_type x (readings m bases anns)) Any) (sym h) ∙ ap (λ x. unwrap_or x Any) k
+      ∙ ap (λ x. unwrap_or (applied_type x (read_anns m bases anns)) Any) (sym h) ∙ ap (λ x. unwrap_or x Any) k
 
   pub applied_found : (a : Ann) (p : Place) (n : Name) (anns : Anns) (r : NameMeaning) (f : Option Tree) → a ≡ applied p n anns
-      → r ≡ resolve_in_module m n.text → applied_type r (readings m bases anns) ≡ f
+      → r ≡ resolve_in_module m n.text → applied_type r (read_anns m bases anns) ≡ f
       → part_findings m bases a ≡ inside_type f p (parts_findings m bases anns)
   applied_found a p n anns r f e h k = ap (part_findings m bases) e
-      ∙ ap (λ x. inside_type (applied_type x (readings m bases anns)) p (parts_findings m bases anns)) (sym h)
+      ∙ ap (λ x. inside_type (applied_type x (read_anns m bases anns)) p (parts_findings m bases anns)) (sym h)
       ∙ ap (λ x. inside_type x p (parts_findings m bases anns)) k
 
   pub union_reading : (a : Ann) (p : Place) (anns : Anns) (f : Option Tree) → a ≡ union p anns
-      → union_type bases (readings m bases anns) ≡ f → reading m bases a ≡ unwrap_or f Any
+      → union_type bases (read_anns m bases anns) ≡ f → reading m bases a ≡ unwrap_or f Any
   union_reading a p anns f e k = ap (reading m bases) e ∙ ap (λ x. unwrap_or x Any) k
 
   pub union_found : (a : Ann) (p : Place) (anns : Anns) (f : Option Tree) → a ≡ union p anns
-      → union_type bases (readings m bases anns) ≡ f → part_findings m bases a ≡ parts_findings m bases anns
+      → union_type bases (read_anns m bases anns) ≡ f → part_findings m bases a ≡ parts_findings m bases anns
       ++ without_type f p E10
   union_found a p anns f e k = ap (part_findings m bases) e ∙ ap (λ x. parts_findings m bases anns ++ without_type x p
       E10) k

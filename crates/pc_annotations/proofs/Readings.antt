@@ -19,7 +19,7 @@ use Rattle.pc_types.specs.Normal.{member_rank, IsRankBefore, IsMember, IsNormal,
 use Rattle.pc_types.specs.Join.{absorbs, is_before}
 use Rattle.pc_annotations.specs.Annotations.{atom, named_type, dict_type, built_type, applied_type, empty_type, is_member}
 use Rattle.pc_annotations.specs.Annotations.{has_same_head, are_apart, is_union, insert_member, in_union_order, union_type}
-use Rattle.pc_annotations.specs.Annotations.{reading, readings, read_ann, read_option}
+use Rattle.pc_annotations.specs.Annotations.{reading, read_anns, read_ann, read_option}
 use Rattle.pc_types.specs.WellFormed.{IsWellFormed}
 use Rattle.pc_types.proofs.Together.{AllBehind, before_true, before_of}
 use Rattle.pc_types.proofs.JoinNormal.{InOrder, union_normal, all_through}
@@ -200,15 +200,15 @@ module _ (m : Module) (bases : Bases) (o : AreSmaller bases) where
         (named_good bases m.imports_any (resolve_in_module m n.text))
     reading_normal_reduced (none_type p) = (tt, tt)
     reading_normal_reduced (applied p head arguments) = good_or bases
-        (applied_type (resolve_in_module m head.text) (readings m bases arguments))
-        (applied_good bases (resolve_in_module m head.text) (readings m bases arguments)
+        (applied_type (resolve_in_module m head.text) (read_anns m bases arguments))
+        (applied_good bases (resolve_in_module m head.text) (read_anns m bases arguments)
         (each_reading_normal_reduced arguments))
     reading_normal_reduced (applied_empty p head) = good_or bases (empty_type (resolve_in_module m head.text))
         (empty_good bases (resolve_in_module m head.text))
-    reading_normal_reduced (tree.union p parts) = good_or bases (union_type bases (readings m bases parts))
-        (union_good bases (readings m bases parts) o (each_reading_normal_reduced parts))
+    reading_normal_reduced (tree.union p parts) = good_or bases (union_type bases (read_anns m bases parts))
+        (union_good bases (read_anns m bases parts) o (each_reading_normal_reduced parts))
 
-    each_reading_normal_reduced : (as' : Anns) → AreNormalReduced bases (readings m bases as')
+    each_reading_normal_reduced : (as' : Anns) → AreNormalReduced bases (read_anns m bases as')
     each_reading_normal_reduced no_anns = tt
     each_reading_normal_reduced (more_anns a rest) = (reading_normal_reduced a, each_reading_normal_reduced rest)
 

@@ -14,7 +14,7 @@ use Rattle.pc_types.specs.Normal.{IsAfter, IsNormal}
 use Rattle.pc_types.specs.Head.{head_of}
 use Rattle.pc_types.specs.declared.head.Head.{Head}
 use Rattle.pc_types.specs.declared.head.Head.TheVariants as heads
-use Rattle.pc_annotations.specs.Text.{type_text, parts_text, others_text, each_behind, with_separator, texts_with, before}
+use Rattle.pc_annotations.specs.Text.{type_text, parts_text, further_parts_text, each_separated, with_separator, texts_with, before}
 use Rattle.pc_annotations.specs.Text.{plain_text, text_by_head}
 
 -- a type that comes after a member is not Never
@@ -25,7 +25,7 @@ module _ (m : Module) where
   abbrev texts : List Tree → List (List ℕ)
   texts ts = map (type_text m) ts
 
-  others_are : (ts : Trees) → others_text m ts ≡ each_behind (codes ", ") (texts (list_of_trees ts))
+  others_are : (ts : Trees) → further_parts_text m ts ≡ each_separated (codes ", ") (texts (list_of_trees ts))
   others_are Rattle.pc_types.specs.Tree.end = refl
   others_are (more t ts) = ap (λ l. codes ", " ++ (type_text m t ++ l)) (others_are ts)
 
@@ -34,7 +34,7 @@ module _ (m : Module) where
   parts_are (more t ts) = ap (λ l. type_text m t ++ l) (others_are ts)
 
   -- the members of a union after a first one
-  behind_member : (t : Tree) → IsNormal t → (t ≡ Never → ⊥) → codes " | " ++ type_text m t ≡ each_behind (codes " | ")
+  behind_member : (t : Tree) → IsNormal t → (t ≡ Never → ⊥) → codes " | " ++ type_text m t ≡ each_separated (codes " | ")
       (texts (members t))
   behind_member Never n h = absurd (h refl)
   behind_member (Union a b) n h =
@@ -70,19 +70,19 @@ plain_is m (heads.Tuple n) ts s e = absurd (cc)
 plain_is m (heads.Union n) ts s e = absurd (cc)
 
 -- one text more
-behind_push : (separator : List ℕ) (xs : List (List ℕ)) (x : List ℕ) → each_behind separator (xs ++ x ∷ [])
-    ≡ each_behind separator xs ++ (separator ++ x)
+behind_push : (separator : List ℕ) (xs : List (List ℕ)) (x : List ℕ) → each_separated separator (xs ++ x ∷ [])
+    ≡ each_separated separator xs ++ (separator ++ x)
 behind_push separator [] x = ap (λ l. separator ++ l) (append-nil x)
 behind_push separator (y ∷ xs) x =
     ap (λ l. separator ++ (y ++ l)) (behind_push separator xs x)
-    ∙ ap (λ l. separator ++ l) (sym (append_assoc y (each_behind separator xs) (separator ++ x)))
-    ∙ sym (append_assoc separator (y ++ each_behind separator xs) (separator ++ x))
+    ∙ ap (λ l. separator ++ l) (sym (append_assoc y (each_separated separator xs) (separator ++ x)))
+    ∙ sym (append_assoc separator (y ++ each_separated separator xs) (separator ++ x))
 
 separated_push : (separator : List ℕ) (xs : List (List ℕ)) (x : List ℕ) → with_separator separator (xs ++ x ∷ [])
     ≡ with_separator separator xs ++ (before (length xs) separator ++ x)
 separated_push separator [] x = append-nil x
 separated_push separator (y ∷ xs) x = ap (λ l. y ++ l) (behind_push separator xs x)
-    ∙ sym (append_assoc y (each_behind separator xs) (separator ++ x))
+    ∙ sym (append_assoc y (each_separated separator xs) (separator ++ x))
 
 -- the text of one part more
 pub part_more : {Ty : Type 0} (text : Ty → List ℕ) (separator old out next last : List ℕ) (types : List Ty) (k : ℕ)

@@ -18,7 +18,7 @@ use Rattle.pc_types.specs.Store.{MeansWithin}
 use Rattle.pc_types.specs.declared.head.Head.{Head}
 use Rattle.pc_types.specs.declared.head.Head.TheVariants as heads
 use Rattle.pc_annotations.specs.Annotations.{is_member, are_apart, is_union, insert_member, in_union_order, union_type}
-use Rattle.pc_annotations.specs.Annotations.{readings}
+use Rattle.pc_annotations.specs.Annotations.{read_anns}
 use Rattle.pc_annotations.proofs.Readings.{reading_normal_reduced}
 use Rattle.pc_annotations.specs.Internal.TypesRead.{IsReadAny, is_member_head, rank_of_head, head_absorbs, heads_apart}
 use Rattle.pc_annotations.specs.Internal.TypesRead.{heads_make_union, united_head}
@@ -208,8 +208,8 @@ module _ {Store Ty : Type 0} (has : Store → Ty → Type 0) (tree : Ty → Tree
 
 -- the union of parts of an annotation is in normal form
 pub union_is_normal : (m : Module) (bases : Bases) (parts : Anns) → AreSmaller bases
-    → is_union bases (readings m bases parts) ≡ true → IsNormal (union (in_union_order (readings m bases parts)))
+    → is_union bases (read_anns m bases parts) ≡ true → IsNormal (union (in_union_order (read_anns m bases parts)))
 union_is_normal m bases parts o e =
     let a = syntax_tree.union (record { start = 0; end = 0 }) parts in
-    subst (λ b. IsNormal (unwrap_or (if b then Some (union (in_union_order (readings m bases parts))) else None) Any)) e
+    subst (λ b. IsNormal (unwrap_or (if b then Some (union (in_union_order (read_anns m bases parts))) else None) Any)) e
     (reading_normal_reduced m bases o a).0

@@ -16,7 +16,7 @@ use Rattle.pc_types.proofs.Ancestors.{reaches_down, reaches_root}
 use Rattle.pc_types.specs.declared.head.Head.{Head}
 use Rattle.pc_types.specs.declared.head.Head.TheVariants as heads
 use Rattle.pc_annotations.specs.Internal.TypesRead.{is_member_head, heads_apart, heads_make_union}
-use Rattle.pc_annotations.specs.Internal.Marks.{class_below, other_heads, with_mark, with_marks, AreUnrelated}
+use Rattle.pc_annotations.specs.Internal.Marks.{class_among_first, other_heads, with_mark, with_marks, AreUnrelated}
 
 both : (x y : Test) → x ≡ true → y ≡ true → (x && y) ≡ true
 both x y p q = ap (λ b. b && y) p ∙ q
@@ -81,7 +81,7 @@ if_none : (b : Test) (c : ℕ) → (if b then Some c else None) ≡ None → b �
 if_none true c e = absurd (cc)
 if_none false c e = refl
 
-class_of : (n c : ℕ) (h : Head) → class_below n h ≡ Some c → (h ≡ heads.Class c) × (c < n)
+class_of : (n c : ℕ) (h : Head) → class_among_first n h ≡ Some c → (h ≡ heads.Class c) × (c < n)
 class_of n c (heads.Class d) e = let p = if_some (nat_lt d n) d c e in
     (ap heads.Class p.1, subst (λ x. x < n) p.1 (ltb-true d n p.0))
 class_of n c _ e = absurd (cc)
@@ -104,11 +104,11 @@ module _ (bases : Bases) (o : AreSmaller bases) (n : ℕ) (count : length bases 
   not_below : (d : ℕ) → nat_lt d n ≡ false → n ≤ d
   not_below d e = grind (arith, nat_tests)
 
-  apart_other : (h : Head) (c : ℕ) → class_below n h ≡ None → c < n → heads_apart bases (heads.Class c) h ≡ true
+  apart_other : (h : Head) (c : ℕ) → class_among_first n h ≡ None → c < n → heads_apart bases (heads.Class c) h ≡ true
   apart_other (heads.Class d) c e l = past c d l (not_below d (if_none (nat_lt d n) d e))
   apart_other _ c e l = refl
 
-  other_apart : (h : Head) (c : ℕ) → class_below n h ≡ None → c < n → heads_apart bases h (heads.Class c) ≡ true
+  other_apart : (h : Head) (c : ℕ) → class_among_first n h ≡ None → c < n → heads_apart bases h (heads.Class c) ≡ true
   other_apart (heads.Class d) c e l = past_too c d l (not_below d (if_none (nat_lt d n) d e))
   other_apart _ c e l = refl
 
@@ -117,16 +117,16 @@ module _ (bases : Bases) (o : AreSmaller bases) (n : ℕ) (count : length bases 
 -- the classes of heads are marked, none twice
 data Marking (n : ℕ) : List Test → List Head → List Test → Type 0 where
   done : {m : List Test} → Marking n m [] m
-  other : {h : Head} {m t : List Test} {hs : List Head} → class_below n h ≡ None → Marking n m hs t
+  other : {h : Head} {m t : List Test} {hs : List Head} → class_among_first n h ≡ None → Marking n m hs t
       → Marking n m (h ∷ hs) t
   class : {c : ℕ} {m t : List Test} {hs : List Head} → c < n → get_or m c false ≡ false
       → Marking n (set m c true) hs t → Marking n m (heads.Class c ∷ hs) t
 
 marking : (n : ℕ) (m : List Test) (hs : List Head) (t : List Test) → with_marks n m hs ≡ Some t → Marking n m hs t
 marking n m [] t e = let q : m ≡ t = cc in subst (λ x. Marking n m [] x) q done
-marking n m (h ∷ hs) t e = by_class (λ x. marking n x hs t) (class_below n h) refl e
+marking n m (h ∷ hs) t e = by_class (λ x. marking n x hs t) (class_among_first n h) refl e
   where
-    unmarked : ((x : List Test) → with_marks n x hs ≡ Some t → Marking n x hs t) → (c : ℕ) → class_below n h ≡ Some c
+    unmarked : ((x : List Test) → with_marks n x hs ≡ Some t → Marking n x hs t) → (c : ℕ) → class_among_first n h ≡ Some c
         → (b : Test) → get_or m c false ≡ b
         → option_and_then (λ x. with_marks n x hs) (if b then None else Some (set m c true)) ≡ Some t
         → Marking n m (h ∷ hs) t
@@ -135,7 +135,7 @@ marking n m (h ∷ hs) t e = by_class (λ x. marking n x hs t) (class_below n h)
         let k = class_of n c h q in
         subst (λ x. Marking n m (x ∷ hs) t) (sym k.0) (class k.1 p (go (set m c true) e))
 
-    by_class : ((x : List Test) → with_marks n x hs ≡ Some t → Marking n x hs t) → (o : Option ℕ) → class_below n h ≡ o
+    by_class : ((x : List Test) → with_marks n x hs ≡ Some t → Marking n x hs t) → (o : Option ℕ) → class_among_first n h ≡ o
         → option_and_then (λ x. with_marks n x hs) (with_mark m o) ≡ Some t → Marking n m (h ∷ hs) t
     by_class go None q e = other q (go m e)
     by_class go (Some c) q e = unmarked go c q (get_or m c false) refl e
@@ -186,13 +186,13 @@ module _ (bases : Bases) (o : AreSmaller bases) (n : ℕ) (count : length bases 
       (apart_all r v u c j (stays m c d (omega arith) e))
 
   -- a head that is apart from the others is apart from the classes too
-  all_other : (h : Head) → class_below n h ≡ None → (hs : List Head)
+  all_other : (h : Head) → class_among_first n h ≡ None → (hs : List Head)
       → list_all (heads_apart bases h) (other_heads n hs) ≡ true → list_all (heads_apart bases h) hs ≡ true
   all_other h q [] e = refl
-  all_other h q (k ∷ hs) e = by_class (all_other h q hs) (class_below n k) refl e
+  all_other h q (k ∷ hs) e = by_class (all_other h q hs) (class_among_first n k) refl e
     where
       by_class : (list_all (heads_apart bases h) (other_heads n hs) ≡ true → list_all (heads_apart bases h) hs ≡ true)
-          → (p : Option ℕ) → class_below n k ≡ p
+          → (p : Option ℕ) → class_among_first n k ≡ p
           → list_all (heads_apart bases h) (cond (is_none p) (k ∷ other_heads n hs) (other_heads n hs)) ≡ true
           → (heads_apart bases h k && list_all (heads_apart bases h) hs) ≡ true
       by_class go None p e =
@@ -272,7 +272,7 @@ EndsThere bases n hs = (m : List Test) → length m ≡ n → with_marks n m hs 
 twice : (bases : Bases) (n : ℕ) (m : List Test) (hs : List Head) → length m ≡ n → with_marks n m hs ≡ None
     → IsMarked m hs ⊎ (heads_make_union bases hs ≡ true → ⊥)
 twice bases n m [] l e = absurd (cc)
-twice bases n m (h ∷ hs) l e = by_class (λ x k. twice bases n x hs k) (class_below n h) refl e
+twice bases n m (h ∷ hs) l e = by_class (λ x k. twice bases n x hs k) (class_among_first n h) refl e
   where
     later : IsMarked m hs ⊎ (heads_make_union bases hs ≡ true → ⊥)
         → IsMarked m (h ∷ hs) ⊎ (heads_make_union bases (h ∷ hs) ≡ true → ⊥)
@@ -290,14 +290,14 @@ twice bases n m (h ∷ hs) l e = by_class (λ x k. twice bases n x hs k) (class_
           among = inr x.among;
         })) (cases_eq x.number c)
 
-    unmarked : EndsThere bases n hs → (c : ℕ) → class_below n h ≡ Some c → (b : Test) → get_or m c false ≡ b
+    unmarked : EndsThere bases n hs → (c : ℕ) → class_among_first n h ≡ Some c → (b : Test) → get_or m c false ≡ b
         → option_and_then (λ x. with_marks n x hs) (if b then None else Some (set m c true)) ≡ None
         → IsMarked m (h ∷ hs) ⊎ (heads_make_union bases (h ∷ hs) ≡ true → ⊥)
     unmarked go c q true p e = inl (record { number = c; marked = p; among = inl (class_of n c h q).0 })
     unmarked go c q false p e = ⊎_elim (λ x. one_more c (class_of n c h q).0 x)
         (λ f. inr (λ u. f (is_first bases h hs u).rest)) (go (set m c true) (length-set m c true ∙ l) e)
 
-    by_class : EndsThere bases n hs → (o : Option ℕ) → class_below n h ≡ o
+    by_class : EndsThere bases n hs → (o : Option ℕ) → class_among_first n h ≡ o
         → option_and_then (λ x. with_marks n x hs) (with_mark m o) ≡ None
         → IsMarked m (h ∷ hs) ⊎ (heads_make_union bases (h ∷ hs) ≡ true → ⊥)
     by_class go None q e = later (go m l e)
@@ -307,7 +307,7 @@ twice bases n m (h ∷ hs) l e = by_class (λ x k. twice bases n x hs k) (class_
 fewer_all : (p : Head → Test) (n : ℕ) (hs : List Head) → list_all p hs ≡ true → list_all p (other_heads n hs) ≡ true
 fewer_all p n [] e = refl
 fewer_all p n (h ∷ hs) e = let z = and_parts (p h) (list_all p hs) e in
-    with_or_without z.0 (fewer_all p n hs z.1) (is_none (class_below n h))
+    with_or_without z.0 (fewer_all p n hs z.1) (is_none (class_among_first n h))
   where
     with_or_without : p h ≡ true → list_all p (other_heads n hs) ≡ true → (b : Test)
         → list_all p (cond b (h ∷ other_heads n hs) (other_heads n hs)) ≡ true
@@ -318,7 +318,7 @@ fewer : (bases : Bases) (n : ℕ) (hs : List Head) → heads_make_union bases hs
     → heads_make_union bases (other_heads n hs) ≡ true
 fewer bases n [] e = refl
 fewer bases n (h ∷ hs) e = let f = is_first bases h hs e in
-    with_or_without f (fewer bases n hs f.rest) (is_none (class_below n h))
+    with_or_without f (fewer bases n hs f.rest) (is_none (class_among_first n h))
   where
     with_or_without : IsFirst bases h hs → heads_make_union bases (other_heads n hs) ≡ true → (b : Test)
         → heads_make_union bases (cond b (h ∷ other_heads n hs) (other_heads n hs)) ≡ true

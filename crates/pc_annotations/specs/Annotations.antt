@@ -104,14 +104,14 @@ module _ (m : Module) (bases : Bases) where
     pub reading : Ann → Tree
     reading (named n) = unwrap_or (named_type m.imports_any (meaning n)) Any
     reading (none_type p) = NoneType
-    reading (applied p head arguments) = unwrap_or (applied_type (meaning head) (readings arguments)) Any
+    reading (applied p head arguments) = unwrap_or (applied_type (meaning head) (read_anns arguments)) Any
     reading (applied_empty p head) = unwrap_or (empty_type (meaning head)) Any
-    reading (tree.union p parts) = unwrap_or (union_type bases (readings parts)) Any
+    reading (tree.union p parts) = unwrap_or (union_type bases (read_anns parts)) Any
 
     -- the types of several annotations
-    pub readings : Anns → List Tree
-    readings no_anns = []
-    readings (more_anns a rest) = reading a ∷ readings rest
+    pub read_anns : Anns → List Tree
+    read_anns no_anns = []
+    read_anns (more_anns a rest) = reading a ∷ read_anns rest
 
   -- E09: a part of any other form, as a whole; E10: an invalid union; each part of a union is judged, but no part of an
   -- E09
@@ -120,9 +120,9 @@ module _ (m : Module) (bases : Bases) where
     PartFinds (named n) f = MatchOption (named_type m.imports_any (meaning n)) (f ≡ finding n.place E09) (λ t. ⊥)
     PartFinds (none_type p) f = ⊥
     PartFinds (applied p head arguments) f =
-        MatchOption (applied_type (meaning head) (readings arguments)) (f ≡ finding p E09) (λ t. PartsFind arguments f)
+        MatchOption (applied_type (meaning head) (read_anns arguments)) (f ≡ finding p E09) (λ t. PartsFind arguments f)
     PartFinds (applied_empty p head) f = MatchOption (empty_type (meaning head)) (f ≡ finding p E09) (λ t. ⊥)
-    PartFinds (tree.union p parts) f = MatchOption (union_type bases (readings parts)) (f ≡ finding p E10) (λ t. ⊥)
+    PartFinds (tree.union p parts) f = MatchOption (union_type bases (read_anns parts)) (f ≡ finding p E10) (λ t. ⊥)
         ⊎ PartsFind parts f
 
     -- the findings in several annotations

@@ -14,7 +14,7 @@ use Rattle.pc_scope.specs.Resolution.{resolve_in_module}
 use Rattle.pc_types.specs.Tree.{Tree}
 use Rattle.pc_types.specs.Below.{Bases}
 use Rattle.pc_types.specs.Shape.{nodes, node_limit}
-use Rattle.pc_annotations.specs.Annotations.{named_type, applied_type, empty_type, union_type, reading, readings, AnnFinds}
+use Rattle.pc_annotations.specs.Annotations.{named_type, applied_type, empty_type, union_type, reading, read_anns, AnnFinds}
 use Rattle.pc_annotations.specs.Annotations.{OptionAnnFinds}
 
 -- annotations of the program, as trees
@@ -40,11 +40,11 @@ module _ (m : Module) (bases : Bases) where
     part_findings (named n) = without_type (named_type m.imports_any (resolve_in_module m n.text)) n.place E09
     part_findings (none_type p) = []
     part_findings (applied p head arguments) =
-        inside_type (applied_type (resolve_in_module m head.text) (readings m bases arguments)) p
+        inside_type (applied_type (resolve_in_module m head.text) (read_anns m bases arguments)) p
         (parts_findings arguments)
     part_findings (applied_empty p head) = without_type (empty_type (resolve_in_module m head.text)) p E09
     part_findings (tree.union p parts) = parts_findings parts
-        ++ without_type (union_type bases (readings m bases parts)) p E10
+        ++ without_type (union_type bases (read_anns m bases parts)) p E10
 
     -- E09 and E10 in several parts, in their order
     pub parts_findings : Anns → List Finding

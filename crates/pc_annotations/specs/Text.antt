@@ -43,12 +43,12 @@ module _ (m : Module) where
     -- the parts of a tuple with commas between them, `()` if there is none
     pub parts_text : Trees → List ℕ
     parts_text end = codes "()"
-    parts_text (more t ts) = type_text t ++ others_text ts
+    parts_text (more t ts) = type_text t ++ further_parts_text ts
 
     -- further parts of a tuple, each after a comma
-    pub others_text : Trees → List ℕ
-    others_text end = []
-    others_text (more t ts) = codes ", " ++ (type_text t ++ others_text ts)
+    pub further_parts_text : Trees → List ℕ
+    further_parts_text end = []
+    further_parts_text (more t ts) = codes ", " ++ (type_text t ++ further_parts_text ts)
 
 -- ---- the text as the program writes it: private to this crate, tied to the above in proofs/
 
@@ -62,14 +62,14 @@ before zero separator = []
 before (suc n) separator = separator
 
 -- texts, each preceded by a separator
-abbrev pub each_behind : List ℕ → List (List ℕ) → List ℕ
-each_behind separator [] = []
-each_behind separator (x ∷ xs) = separator ++ (x ++ each_behind separator xs)
+abbrev pub each_separated : List ℕ → List (List ℕ) → List ℕ
+each_separated separator [] = []
+each_separated separator (x ∷ xs) = separator ++ (x ++ each_separated separator xs)
 
 -- texts with a separator between them
 abbrev pub with_separator : List ℕ → List (List ℕ) → List ℕ
 with_separator separator [] = []
-with_separator separator (x ∷ xs) = x ++ each_behind separator xs
+with_separator separator (x ∷ xs) = x ++ each_separated separator xs
 
 -- texts with a separator between them, `()` if there is none
 abbrev pub texts_with : List ℕ → List (List ℕ) → List ℕ

@@ -2,7 +2,7 @@
 
 ghost use Rattle.std.specs.Prelude.{◌≡◌, ◌↔◌, IsTrue, IfOk, length};
 ghost use Rattle.std.specs.Option.{option_map};
-ghost use Rattle.pc_annotations.specs.Internal.Marks.{class_below, other_heads, with_marks, AreUnrelated};
+ghost use Rattle.pc_annotations.specs.Internal.Marks.{class_among_first, other_heads, with_marks, AreUnrelated};
 
 use pc_source::OutOfMemory;
 use pc_types::{Head, Parents};
@@ -10,7 +10,7 @@ use std::alloc::Global;
 
 /// Returns the class of a head, if it is one of the first `count`.
 fn class_below(count: usize, head: Head) -> Option<usize>
-    ensures { result ≡ class_below count head }
+    ensures { result ≡ class_among_first count head }
 {
     match head {
         Head::Class(class) => { if class < count { Some(class) } else { None } }

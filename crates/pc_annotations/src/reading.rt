@@ -8,7 +8,7 @@ ghost use Rattle.pc_scope.specs.Resolution.{resolve_in_module};
 ghost use Rattle.pc_scope.specs.ModuleScopes.{AreScopes};
 ghost use Rattle.pc_types.specs.Tree.{Any};
 ghost use Rattle.pc_types.specs.Store.{KeepsTypes};
-ghost use Rattle.pc_annotations.specs.Annotations.{reading, readings};
+ghost use Rattle.pc_annotations.specs.Annotations.{reading, read_anns};
 ghost use Rattle.pc_annotations.specs.Listed.{anns_of_list, part_findings, parts_findings};
 ghost use Rattle.pc_annotations.specs.Internal.TypesRead.{IsRead, AreRead, with_one};
 ghost use Rattle.std.specs.Option.{option_map};
@@ -145,7 +145,7 @@ fn read_each<S: TypeStore>(
     requires { AreScopes (module_of outline.now.tree.now) outline.now.scopes.now }
     ensures typed { IfOk result
         (λ r. AreRead S.has S.tree store.new r.heads.items r.types
-        (readings (module_of outline.now.tree.now) outline.now.parents.now (anns_of_list parts.now))) }
+        (read_anns (module_of outline.now.tree.now) outline.now.parents.now (anns_of_list parts.now))) }
     ensures pushed { OnOk result
         (found.new.items ≡ found.old.items
         ++ parts_findings (module_of outline.now.tree.now) outline.now.parents.now (anns_of_list parts.now)) }

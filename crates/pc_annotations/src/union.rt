@@ -5,7 +5,7 @@ ghost use Rattle.std.specs.List.{list_all};
 ghost use Rattle.std.specs.Option.{option_map};
 ghost use Rattle.pc_tree.specs.Tree.{Anns, module_of};
 ghost use Rattle.pc_types.specs.Store.{KeepsTypes};
-ghost use Rattle.pc_annotations.specs.Annotations.{union_type, readings};
+ghost use Rattle.pc_annotations.specs.Annotations.{union_type, read_anns};
 ghost use Rattle.pc_annotations.specs.Internal.TypesRead.{AreRead, IsReadAny, is_member_head, head_absorbs, heads_apart};
 ghost use Rattle.pc_annotations.specs.Internal.TypesRead.{heads_make_union, united_head};
 
@@ -115,13 +115,13 @@ pub(crate) fn unite<S: TypeStore>(
     types: Readings<S::Ty>,
 ) -> Result<Option<ReadAnnotation<S::Ty>>, OutOfMemory>
     requires { (parts : Anns) × AreRead S.has S.tree store.old types.heads.items types.types
-        (readings (module_of outline.now.tree.now) outline.now.parents.now parts) }
+        (read_anns (module_of outline.now.tree.now) outline.now.parents.now parts) }
     ensures value { (parts : Anns) → AreRead S.has S.tree store.old types.heads.items types.types
-        (readings (module_of outline.now.tree.now) outline.now.parents.now parts)
+        (read_anns (module_of outline.now.tree.now) outline.now.parents.now parts)
         → IfOk result
         (λ r. IsReadAny S.has S.tree store.new (option_map (λ x. (x.head, x.ty)) r)
         (union_type outline.now.parents.now
-        (readings (module_of outline.now.tree.now) outline.now.parents.now parts))) }
+        (read_anns (module_of outline.now.tree.now) outline.now.parents.now parts))) }
     ensures kept { KeepsTypes S.has store.old store.new }
 {
     outline.parents.ordered();

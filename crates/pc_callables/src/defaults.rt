@@ -11,10 +11,10 @@ ghost use Rattle.pc_rules.specs.Operations.{Label as LabelOf, clean};
 ghost use Rattle.pc_rules.specs.Computed.Expressions.{flows_of};
 ghost use Rattle.pc_rules.specs.Computed.Findings.{brief, flows_at};
 ghost use Rattle.pc_rules.specs.Signatures.{literal_type};
-ghost use Rattle.pc_rules.specs.Computed.Signatures.{bound_in, binds_text, literal_findings, default_findings};
+ghost use Rattle.pc_rules.specs.Computed.Signatures.{is_in_names, binds_text, literal_findings, default_findings};
 ghost use Rattle.pc_rules.specs.Computed.Signatures.{params_defaults};
 ghost use Rattle.pc_rules.specs.Computed.Standing.{MeansLabel, label_with};
-ghost use Rattle.pc_rules.specs.Computed.Checkers.{Finds, CheckerKept};
+ghost use Rattle.pc_rules.specs.Computed.Checkers.{AddsNotes, CheckerKept};
 
 use crate::bound::{BoundNames, bind, is_bound};
 use pc_annotations::ModuleOutline;
@@ -28,7 +28,7 @@ use std::alloc::Global;
 /// Returns whether a text is bound as a name here: it is not reserved, and not already bound.
 #[tactic(auto, using(pc_class::proofs::ReservedNames::reserved_same))]
 pub fn binds(bound: &BoundNames, name: &str) -> bool
-    ensures { result ≡ binds_text (bound_in bound.now) name.now }
+    ensures { result ≡ binds_text (is_in_names bound.now) name.now }
 {
     !(is_reserved(name) || is_bound(bound, name))
 }
@@ -80,7 +80,7 @@ pub fn find_into<S: TypeStore>(
     requires label { S.has checker.old.store.now label.now.ty }
     requires into { S.has checker.old.store.now into.now }
     ensures found { (m : LabelOf) → label_with S.tree label.now ≡ brief m
-        → OnOk result (Finds checker.old checker.new
+        → OnOk result (AddsNotes checker.old checker.new
         (flows_at place (flows_of parents.now m (S.tree into.now ∷ [])))) }
     ensures goes_on { CheckerKept S.TypeStore checker.old checker.new }
 {
@@ -96,7 +96,7 @@ fn find_literal<S: TypeStore>(
     into: &S::Ty,
 ) -> Result<(), OutOfMemory>
     requires { S.has checker.old.store.now into.now }
-    ensures found { OnOk result (Finds checker.old checker.new
+    ensures found { OnOk result (AddsNotes checker.old checker.new
         (literal_findings parents.now (literal_of literal.now) (S.tree into.now))) }
     ensures goes_on { CheckerKept S.TypeStore checker.old checker.new }
 {
@@ -115,7 +115,7 @@ pub(crate) fn find_default<S: TypeStore>(
     into: &S::Ty,
 ) -> Result<(), OutOfMemory>
     requires { S.has checker.old.store.now into.now }
-    ensures found { OnOk result (Finds checker.old checker.new
+    ensures found { OnOk result (AddsNotes checker.old checker.new
         (default_findings parents.now binds (option_literal_of default.now) (S.tree into.now))) }
     ensures goes_on { CheckerKept S.TypeStore checker.old checker.new }
 {
@@ -143,8 +143,8 @@ pub(crate) fn find_defaults<S: TypeStore>(
     requires outline { IsModuleOutline outline.now }
     requires given { All (HasParameter (S.has checker.old.store.now)) typed.now }
     requires same { parameters_with S.tree typed.now ≡ parameters_of (module_in outline.now) (map param_of params.now) }
-    ensures found { OnOk result (Finds checker.old checker.new
-        (params_defaults (module_in outline.now) (bound_in bound.old) (map param_of params.now))) }
+    ensures found { OnOk result (AddsNotes checker.old checker.new
+        (params_defaults (module_in outline.now) (is_in_names bound.old) (map param_of params.now))) }
     ensures goes_on { CheckerKept S.TypeStore checker.old checker.new }
 {
     for number in 0..params.len() {

@@ -11,10 +11,10 @@ ghost use Rattle.pc_annotations.specs.ModuleOutlines.{module_in};
 ghost use Rattle.pc_class.specs.Facts.{base_facts, class_facts_at, classes_of, field_by_name, method_by_name};
 ghost use Rattle.pc_class.specs.Tables.{classes_with, parameter_lent, method_lent, IsFieldIfAny, IsMethodIfAny};
 ghost use Rattle.pc_rules.specs.Signatures.{signature_of};
-ghost use Rattle.pc_rules.specs.Computed.Signatures.{bound_in, base_has_member, binds_as_field, binds_as_method};
+ghost use Rattle.pc_rules.specs.Computed.Signatures.{is_in_names, base_has_member, binds_as_field, binds_as_method};
 ghost use Rattle.pc_rules.specs.Computed.Signatures.{field_default, method_findings, member_findings, members_findings};
 ghost use Rattle.pc_rules.specs.Computed.Signatures.{no_name};
-ghost use Rattle.pc_rules.specs.Computed.Checkers.{Finds, CheckerKept};
+ghost use Rattle.pc_rules.specs.Computed.Checkers.{AddsNotes, CheckerKept};
 ghost use Rattle.pc_callables.specs.MembersHeld.{IsHeld, AreHeld};
 ghost use Rattle.pc_callables.specs.SignaturesRead.{AreGlobals, AreSignatures, HasSignatures};
 ghost use Rattle.pc_callables.specs.SignaturesRead.{IsSignature, signatures_with};
@@ -69,7 +69,7 @@ fn binds_as_field<Ty: Drop>(
     name: &str,
 ) -> bool
     ensures { (tree : Ty → TypeTree)
-        → result ≡ binds_as_field (base_facts (classes_with tree classes.now) base) (bound_in bound.now) name.now }
+        → result ≡ binds_as_field (base_facts (classes_with tree classes.now) base) (is_in_names bound.now) name.now }
 {
     !(is_reserved(name) || name == "mro")
         && (!is_bound(bound, name) && !has_member(classes, base, name))
@@ -85,7 +85,7 @@ fn binds_as_method<Ty: Drop>(
     name: &str,
 ) -> bool
     ensures { (tree : Ty → TypeTree)
-        → result ≡ binds_as_method (base_facts (classes_with tree classes.now) base) (bound_in bound.now) name.now }
+        → result ≡ binds_as_method (base_facts (classes_with tree classes.now) base) (is_in_names bound.now) name.now }
 {
     !is_reserved(name) && (!is_bound(bound, name) && !has_field(classes, base, name))
 }
@@ -99,7 +99,7 @@ fn held_field<'t, Ty: Drop>(
 ) -> Option<&'t Parameter<Ty>>
     ensures value { (tree : Ty → TypeTree)
         → option_map (parameter_lent tree) result
-        ≡ (if binds_as_field (base_facts (classes_with tree classes.now) class.base) (bound_in bound.now) name.now
+        ≡ (if binds_as_field (base_facts (classes_with tree classes.now) class.base) (is_in_names bound.now) name.now
         then field_by_name (class_facts_at (classes_with tree classes.now) class.number).fields name.now else None) }
     ensures listed { IsFieldIfAny classes.now result }
 {
@@ -119,7 +119,7 @@ fn held_method<'t, Ty: Drop>(
 ) -> Option<&'t Method<Ty>>
     ensures value { (tree : Ty → TypeTree)
         → option_map (method_lent tree) result
-        ≡ (if binds_as_method (base_facts (classes_with tree classes.now) class.base) (bound_in bound.now) name.now
+        ≡ (if binds_as_method (base_facts (classes_with tree classes.now) class.base) (is_in_names bound.now) name.now
         then method_by_name (class_facts_at (classes_with tree classes.now) class.number).methods name.now else None) }
     ensures listed { IsMethodIfAny classes.now result }
 {
@@ -141,11 +141,11 @@ fn check_field<S: TypeStore>(
 ) -> Result<(), OutOfMemory>
     requires globals { AreGlobals S.has S.tree checker.old.store.now globals.now }
     requires held { IsHeld (module_in globals.now.outline.now) class.number
-        (base_facts (classes_of (module_in globals.now.outline.now)) class.base) (bound_in bound.now)
+        (base_facts (classes_of (module_in globals.now.outline.now)) class.base) (is_in_names bound.now)
         (field_member (field_of field.now)) }
-    ensures found { OnOk result (Finds checker.old checker.new
+    ensures found { OnOk result (AddsNotes checker.old checker.new
         (field_default (module_in globals.now.outline.now)
-        (base_facts (classes_of (module_in globals.now.outline.now)) class.base) (bound_in bound.now)
+        (base_facts (classes_of (module_in globals.now.outline.now)) class.base) (is_in_names bound.now)
         (field_of field.now))) }
     ensures goes_on { CheckerKept S.TypeStore checker.old checker.new }
 {
@@ -171,14 +171,14 @@ fn read_method<S: TypeStore>(
 ) -> Result<Signature<S::Ty>, OutOfMemory>
     requires globals { AreGlobals S.has S.tree checker.old.store.now globals.now }
     requires held { IsHeld (module_in globals.now.outline.now) class.number
-        (base_facts (classes_of (module_in globals.now.outline.now)) class.base) (bound_in bound.now)
+        (base_facts (classes_of (module_in globals.now.outline.now)) class.base) (is_in_names bound.now)
         (method_member (func_of def.now)) }
     ensures typed { IfOk result
         (λ s. IsSignature S.has S.tree checker.new.store.now s
         (signature_of (module_in globals.now.outline.now) (func_of def.now))) }
-    ensures found { OnOk result (Finds checker.old checker.new
+    ensures found { OnOk result (AddsNotes checker.old checker.new
         (method_findings (module_in globals.now.outline.now)
-        (binds_as_method (base_facts (classes_of (module_in globals.now.outline.now)) class.base) (bound_in bound.now)
+        (binds_as_method (base_facts (classes_of (module_in globals.now.outline.now)) class.base) (is_in_names bound.now)
         (func_of def.now).name.text) (func_of def.now))) }
     ensures goes_on { CheckerKept S.TypeStore checker.old checker.new }
 {
@@ -207,7 +207,7 @@ fn add_member<S: TypeStore>(
 ) -> Result<(), OutOfMemory>
     requires globals { AreGlobals S.has S.tree checker.old.store.now globals.now }
     requires table { IsHeld (module_in globals.now.outline.now) class.number
-        (base_facts (classes_of (module_in globals.now.outline.now)) class.base) (bound_in bound.now)
+        (base_facts (classes_of (module_in globals.now.outline.now)) class.base) (is_in_names bound.now)
         (member_of member.now) }
     requires held { HasSignatures (S.has checker.old.store.now) methods.old.items }
     ensures held { OnOk result (HasSignatures (S.has checker.new.store.now) methods.new.items) }
@@ -215,9 +215,9 @@ fn add_member<S: TypeStore>(
         (signatures_with S.tree methods.new.items
         ≡ signatures_with S.tree methods.old.items
         ++ map (signature_of (module_in globals.now.outline.now)) (methods_in (member_of member.now ∷ []))) }
-    ensures found { OnOk result (Finds checker.old checker.new
+    ensures found { OnOk result (AddsNotes checker.old checker.new
         (member_findings (module_in globals.now.outline.now)
-        (base_facts (classes_of (module_in globals.now.outline.now)) class.base) (bound_in bound.now)
+        (base_facts (classes_of (module_in globals.now.outline.now)) class.base) (is_in_names bound.now)
         (member_of member.now))) }
     ensures goes_on { CheckerKept S.TypeStore checker.old checker.new }
 {
@@ -246,7 +246,7 @@ pub fn read_members<S: TypeStore>(
     ensures typed { IfOk result
         (λ ss. AreSignatures S.has S.tree checker.new.store.now ss.items
         (map (signature_of (module_in globals.now.outline.now)) (methods_in (map member_of members.now)))) }
-    ensures found { OnOk result (Finds checker.old checker.new
+    ensures found { OnOk result (AddsNotes checker.old checker.new
         (members_findings (module_in globals.now.outline.now)
         (base_facts (classes_of (module_in globals.now.outline.now)) class.base) no_name (map member_of members.now))) }
     ensures goes_on { CheckerKept S.TypeStore checker.old checker.new }

@@ -12,12 +12,12 @@ ghost use Rattle.pc_class.specs.Bases.{bases_of};
 ghost use Rattle.pc_class.specs.Facts.{typed_parameter, parameters_of};
 ghost use Rattle.pc_notes.specs.Notes.{plain_note};
 ghost use Rattle.pc_rules.specs.Signatures.{signature_of, signatures_of};
-ghost use Rattle.pc_rules.specs.Computed.Signatures.{bound_in, param_findings, params_findings, def_findings};
+ghost use Rattle.pc_rules.specs.Computed.Signatures.{is_in_names, param_findings, params_findings, def_findings};
 ghost use Rattle.pc_rules.specs.Computed.Signatures.{function_findings, functions_findings};
 ghost use Rattle.pc_callables.specs.SignaturesRead.{IsParameter, AreParameters};
 ghost use Rattle.pc_callables.specs.SignaturesRead.{IsSignature};
 ghost use Rattle.pc_callables.specs.SignaturesRead.{AreSignatures, HasSignatures, signatures_with};
-ghost use Rattle.pc_rules.specs.Computed.Checkers.{Finds, CheckerKept};
+ghost use Rattle.pc_rules.specs.Computed.Checkers.{AddsNotes, CheckerKept};
 
 use crate::bound::{BoundNames, bind};
 use crate::defaults::{binds, find_default};
@@ -39,7 +39,7 @@ pub fn read_annotation<S: TypeStore>(
     ensures typed { IfOk result
         (λ t. Means S.has S.tree checker.new.store.now t
         (read_ann (module_in outline.now) (bases_of (module_in outline.now)) (ann_of ann.now))) }
-    ensures found { OnOk result (Finds checker.old checker.new
+    ensures found { OnOk result (AddsNotes checker.old checker.new
         (map plain_note (ann_findings (module_in outline.now) (bases_of (module_in outline.now)) (ann_of ann.now)))) }
     ensures goes_on { CheckerKept S.TypeStore checker.old checker.new }
 {
@@ -59,7 +59,7 @@ pub(crate) fn read_optional<S: TypeStore>(
     ensures typed { IfOk result
         (λ t. Means S.has S.tree checker.new.store.now t
         (read_option (module_in outline.now) (bases_of (module_in outline.now)) (option_ann_of ann.now))) }
-    ensures found { OnOk result (Finds checker.old checker.new
+    ensures found { OnOk result (AddsNotes checker.old checker.new
         (map plain_note (option_findings (module_in outline.now) (bases_of (module_in outline.now))
         (option_ann_of ann.now)))) }
     ensures goes_on { CheckerKept S.TypeStore checker.old checker.new }
@@ -82,8 +82,8 @@ fn check_param<S: TypeStore>(
     ensures typed { IfOk result
         (λ p. IsParameter S.has S.tree checker.new.store.now p (typed_parameter (module_in outline.now)
         (param_of param.now))) }
-    ensures found { OnOk result (Finds checker.old checker.new
-        (param_findings (module_in outline.now) (bound_in bound.now) (param_of param.now))) }
+    ensures found { OnOk result (AddsNotes checker.old checker.new
+        (param_findings (module_in outline.now) (is_in_names bound.now) (param_of param.now))) }
     ensures goes_on { CheckerKept S.TypeStore checker.old checker.new }
 {
     let mut in_it = Vec::new(checker.alloc);
@@ -112,8 +112,8 @@ fn read_params<S: TypeStore>(
     ensures typed { IfOk result
         (λ ps. AreParameters S.has S.tree checker.new.store.now ps.items
         (parameters_of (module_in outline.now) (map param_of params.now))) }
-    ensures found { OnOk result (Finds checker.old checker.new
-        (params_findings (module_in outline.now) (bound_in bound.old) (map param_of params.now))) }
+    ensures found { OnOk result (AddsNotes checker.old checker.new
+        (params_findings (module_in outline.now) (is_in_names bound.old) (map param_of params.now))) }
     ensures goes_on { CheckerKept S.TypeStore checker.old checker.new }
 {
     let mut all = Vec::new(checker.alloc);
@@ -136,8 +136,8 @@ pub(crate) fn read_signature<S: TypeStore>(
     requires { IsModuleOutline outline.now }
     ensures typed { IfOk result
         (λ s. IsSignature S.has S.tree checker.new.store.now s (signature_of (module_in outline.now) (func_of def.now))) }
-    ensures found { OnOk result (Finds checker.old checker.new
-        (def_findings (module_in outline.now) (bound_in bound.old) (func_of def.now))) }
+    ensures found { OnOk result (AddsNotes checker.old checker.new
+        (def_findings (module_in outline.now) (is_in_names bound.old) (func_of def.now))) }
     ensures goes_on { CheckerKept S.TypeStore checker.old checker.new }
 {
     let params = read_params(checker, outline, bound, &def.params)?;
@@ -161,7 +161,7 @@ fn add_function<S: TypeStore>(
         (signatures_with S.tree functions.new.items
         ≡ signatures_with S.tree functions.old.items
         ++ map (signature_of (module_in outline.now)) (functions_in (item_of item.now ∷ []))) }
-    ensures found { OnOk result (Finds checker.old checker.new
+    ensures found { OnOk result (AddsNotes checker.old checker.new
         (function_findings (module_in outline.now) (item_of item.now))) }
     ensures goes_on { CheckerKept S.TypeStore checker.old checker.new }
 {
@@ -187,7 +187,7 @@ pub fn read_functions<S: TypeStore>(
     requires { IsModuleOutline outline.now }
     ensures typed { IfOk result
         (λ fs. AreSignatures S.has S.tree checker.new.store.now fs.items (signatures_of (module_in outline.now))) }
-    ensures found { OnOk result (Finds checker.old checker.new
+    ensures found { OnOk result (AddsNotes checker.old checker.new
         (functions_findings (module_in outline.now) (module_in outline.now).items)) }
     ensures goes_on { CheckerKept S.TypeStore checker.old checker.new }
 {

@@ -13,7 +13,7 @@ use Rattle.pc_scope.specs.Resolution.{is_one_of, index_of}
 use Rattle.pc_class.specs.declared.table.Parameter.{Parameter as RustParameter}
 use Rattle.pc_class.specs.Listed.{names_listed, parameter_name}
 use Rattle.pc_class.specs.Tables.{parameter_with}
-use Rattle.pc_rules.specs.Calls.{GivenArguments, parameter_names, position_of, is_free, are_filled, is_suited}
+use Rattle.pc_rules.specs.Calls.{GivenArguments, parameter_names, index_of_parameter, is_free, are_filled, is_suited}
 use Rattle.pc_rules.specs.Calls.{unnamed_parameter, builtin_signature}
 use Rattle.pc_calls.specs.JudgedCalls.{filled_listed, is_place, signature_listed}
 use Rattle.pc_calls.proofs.NamesGiven.{SameNames, among_behind}
@@ -121,11 +121,11 @@ filled_meant tree named before (p ∷ ps) =
 
 -- of each name the parameter is free, by the names of parameters
 pub free_meant : {Ty : Type 0} (tree : Ty → Tree) (k : ℕ) (ps : List (RustParameter Ty)) (ns : List (List ℕ))
-    → list_all (λ word. is_free k (position_of (map (parameter_with tree) ps) word)) ns
+    → list_all (λ word. is_free k (index_of_parameter (map (parameter_with tree) ps) word)) ns
     ≡ list_all (λ word. is_free k (index_of word (names_listed ps))) ns
 free_meant tree k ps [] = refl
 free_meant tree k ps (n ∷ ns) =
-    ap (λ o. is_free k o && list_all (λ word. is_free k (position_of (map (parameter_with tree) ps) word)) ns)
+    ap (λ o. is_free k o && list_all (λ word. is_free k (index_of_parameter (map (parameter_with tree) ps) word)) ns)
     (listed_position tree ps n)
     ∙ ap (λ x. is_free k (index_of n (names_listed ps)) && x) (free_meant tree k ps ns)
 
@@ -149,7 +149,7 @@ pub suited_listed : {Ty : Type 0} (tree : Ty → Tree) (returns : Tree) (g : Giv
 suited_listed tree returns g ps =
     let k = g.positional in
     let qs = map (parameter_with tree) ps in
-    ap (λ n. nat_le k n && (list_all (λ word. is_free k (position_of qs word)) g.named && are_filled g.named
+    ap (λ n. nat_le k n && (list_all (λ word. is_free k (index_of_parameter qs word)) g.named && are_filled g.named
     (parameter_names (take k qs)) (drop k qs))) (listed_length tree ps)
     ∙ ap (λ x. nat_le k (length ps) && (x && are_filled g.named (parameter_names (take k qs)) (drop k qs)))
     (free_meant tree k ps g.named)

@@ -16,7 +16,7 @@ use Rattle.pc_class.specs.Tables.{parameter_with}
 use Rattle.pc_class.specs.Facts.{TypedParameter, field_by_name}
 use Rattle.pc_calls.specs.declared.seats.Argument.{Argument}
 use Rattle.pc_calls.specs.declared.seats.Argument.TheVariants as argument
-use Rattle.pc_rules.specs.Calls.{CallOffer, all_codes, type_at, unnamed_parameter, parameter_names, builtin_signature}
+use Rattle.pc_rules.specs.Calls.{CallOffer, all_codes, parameter_type, unnamed_parameter, parameter_names, builtin_signature}
 use Rattle.pc_rules.specs.Context.{Signature}
 use Rattle.pc_rules.specs.Operations.{has_error}
 use Rattle.pc_rules.specs.Computed.Standing.{HasIfAny}
@@ -28,15 +28,15 @@ use Rattle.pc_calls.proofs.FirstNames.{listed_names}
 -- the type of the parameter of a number
 abbrev pub type_of_number : List TypedParameter → Option ℕ → List Tree
 type_of_number ps None = []
-type_of_number ps (Some k) = type_at (slice_get ps k)
+type_of_number ps (Some k) = parameter_type (slice_get ps k)
 
-field_number : (ps : List TypedParameter) (word : List ℕ) → type_at (field_by_name ps word) ≡ type_of_number ps
+field_number : (ps : List TypedParameter) (word : List ℕ) → parameter_type (field_by_name ps word) ≡ type_of_number ps
     (index_of word (parameter_names ps))
 field_number [] word = refl
 field_number (p ∷ ps) word = go (bytes_eq word p.name) (index_of word (parameter_names ps)) (field_number ps word)
   where
-    go : (b : Test) (o : Option ℕ) → type_at (field_by_name ps word) ≡ type_of_number ps o
-        → type_at (cond b (Some p) (field_by_name ps word)) ≡ type_of_number (p ∷ ps)
+    go : (b : Test) (o : Option ℕ) → parameter_type (field_by_name ps word) ≡ type_of_number ps o
+        → parameter_type (cond b (Some p) (field_by_name ps word)) ≡ type_of_number (p ∷ ps)
         (if b then Some 0 else option_map suc o)
     go true o e = refl
     go false None e = e
@@ -63,9 +63,9 @@ module _ {Ty : Type 0} (tree : Ty → Tree) where
   -- at a place with a parameter, or with none
   types_there : (a : Argument) (ps : List (RustParameter Ty)) (k : ℕ) (o : Option (RustParameter Ty))
       → number_for a (names_listed ps) ≡ Some k → slice_get ps k ≡ o → (returns : Tree)
-      → types_at a (signature_listed tree returns ps) ≡ type_at (option_map (parameter_with tree) o)
+      → types_at a (signature_listed tree returns ps) ≡ parameter_type (option_map (parameter_with tree) o)
   types_there a ps k o e is returns = types_number a returns ps ∙ ap (type_of_number (map (parameter_with tree) ps)) e
-      ∙ ap type_at (mapped ps k ∙ ap (option_map (parameter_with tree)) is)
+      ∙ ap parameter_type (mapped ps k ∙ ap (option_map (parameter_with tree)) is)
 
   pub param_past : (a : Argument) (ps : List (RustParameter Ty)) (k : ℕ) → number_for a (names_listed ps) ≡ Some k
       → slice_get ps k ≡ None → (returns : Tree) → [] ≡ types_at a (signature_listed tree returns ps)
@@ -78,7 +78,7 @@ module _ {Ty : Type 0} (tree : Ty → Tree) where
       ∙ sym (types_there a ps k (Some p) e is returns)
 
 -- of a built-in
-unnamed_first : (ts : List Tree) (word : List ℕ) → type_at (field_by_name (map unnamed_parameter ts) word)
+unnamed_first : (ts : List Tree) (word : List ℕ) → parameter_type (field_by_name (map unnamed_parameter ts) word)
     ≡ type_of_number (map unnamed_parameter ts) (if bytes_eq word [] then Some 0 else None)
 unnamed_first [] word = go (bytes_eq word [])
   where
@@ -87,8 +87,8 @@ unnamed_first [] word = go (bytes_eq word [])
     go false = refl
 unnamed_first (t ∷ ts) word = go (bytes_eq word []) (unnamed_first ts word)
   where
-    go : (b : Test) → type_at (field_by_name (map unnamed_parameter ts) word) ≡ type_of_number
-        (map unnamed_parameter ts) (if b then Some 0 else None) → type_at
+    go : (b : Test) → parameter_type (field_by_name (map unnamed_parameter ts) word) ≡ type_of_number
+        (map unnamed_parameter ts) (if b then Some 0 else None) → parameter_type
         (cond b (Some (unnamed_parameter t)) (field_by_name (map unnamed_parameter ts) word)) ≡ type_of_number
         (map unnamed_parameter (t ∷ ts)) (if b then Some 0 else None)
     go true e = refl
@@ -115,14 +115,14 @@ module _ {Ty : Type 0} (tree : Ty → Tree) where
       → (returns : Tree) → [] ≡ types_at a (builtin_signature (map tree ts) returns)
   builtin_past a ts k e h returns = sym (builtin_types a returns (map tree ts)
       ∙ ap (type_of_number (map unnamed_parameter (map tree ts))) e
-      ∙ ap type_at (unnamed_get ts k ∙ ap (option_map (λ t. unnamed_parameter (tree t))) (slice_get_past ts k h)))
+      ∙ ap parameter_type (unnamed_get ts k ∙ ap (option_map (λ t. unnamed_parameter (tree t))) (slice_get_past ts k h)))
 
   pub builtin_there : (a : Argument) (ts : List Ty) (k : ℕ) (x : Ty) (t : Tree) → builtin_number a ≡ Some k
       → k < length ts → x ≡ get_or ts k x → t ≡ tree x → (returns : Tree)
       → t ∷ [] ≡ types_at a (builtin_signature (map tree ts) returns)
   builtin_there a ts k x t e less is same returns = ap (λ (u : Tree). u ∷ []) same
       ∙ sym (builtin_types a returns (map tree ts) ∙ ap (type_of_number (map unnamed_parameter (map tree ts))) e
-      ∙ ap type_at (unnamed_get ts k ∙ ap (option_map (λ y. unnamed_parameter (tree y)))
+      ∙ ap parameter_type (unnamed_get ts k ∙ ap (option_map (λ y. unnamed_parameter (tree y)))
       (slice_get_read ts (length ts) k x refl less is)))
 
 -- ---- the types of all members that are called

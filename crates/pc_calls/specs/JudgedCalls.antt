@@ -21,7 +21,7 @@ use Rattle.pc_class.specs.Tables.{HasParameter, parameters_with}
 use Rattle.pc_flow.specs.Narrowing.{second_argument, test_of_argument}
 use Rattle.pc_rules.specs.Context.{Signature}
 use Rattle.pc_rules.specs.Calls.{GivenArguments, CallOffer, CallRule, member_rule, length_rule, test_rule, CalleeLabel}
-use Rattle.pc_rules.specs.Calls.{Seat, positional_seat, named_seat, builtin_signature, type_at, list_offers}
+use Rattle.pc_rules.specs.Calls.{Seat, positional_seat, named_seat, builtin_signature, parameter_type, list_offers}
 use Rattle.pc_rules.specs.Calls.{dict_offers, fails_at_callee, second_code}
 use Rattle.pc_rules.specs.Computed.Findings.{brief}
 use Rattle.pc_rules.specs.Computed.Standing.{label_with, HasIfAny}
@@ -163,8 +163,8 @@ builtin_number (argument.Name word) = if bytes_eq word.now [] then Some 0 else N
 -- the types that an argument flows into in a signature: that of the parameter at its position, or of the first of its
 -- name
 abbrev pub types_at : Argument → Signature → List Tree
-types_at (argument.Position k) s = type_at (slice_get s.parameters k)
-types_at (argument.Name word) s = type_at (field_by_name s.parameters word.now)
+types_at (argument.Position k) s = parameter_type (slice_get s.parameters k)
+types_at (argument.Name word) s = parameter_type (field_by_name s.parameters word.now)
 
 -- whether a head is that of Any or object
 abbrev pub is_head_of_any : Head → Test

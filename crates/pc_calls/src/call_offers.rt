@@ -173,10 +173,8 @@ pub fn push_offer<'t, Ty: Drop>(
 ) -> Result<(), OutOfMemory>
     ensures { OnOk result (offers.new.items ≡ offers.old.items ++ offer.entry ∷ []) }
 {
-    match offers.push(offer) {
-        Ok(()) => Ok(()),
-        Err(_) => Err(OutOfMemory),
-    }
+    offers.push(offer)?;
+    Ok(())
 }
 
 /// Appends the results of calling a value on each member of its type.

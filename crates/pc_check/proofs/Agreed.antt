@@ -23,7 +23,7 @@ use Rattle.pc_flow.specs.WellFormed.{IsWellFormedIfAny, IsWellFormedEnv}
 use Rattle.pc_flow.specs.Stored.{env_of}
 use Rattle.pc_flow.proofs.Conditions.{current_well_formed}
 use Rattle.pc_notes.specs.Notes.{Note}
-use Rattle.pc_module_rules.specs.Computed.Statements.{BodyContext, Table, Walk, BranchesResult, bound_type}
+use Rattle.pc_module_rules.specs.Computed.Statements.{BodyContext, DeclaredTypes, Walk, BranchesResult, bound_type}
 use Rattle.pc_module_rules.specs.Computed.Statements.{narrowed_at, bind_item, with_note, step, walk_suite}
 use Rattle.pc_module_rules.specs.Computed.Statements.{walk_branches}
 use Rattle.pc_module_rules.specs.Computed.Statements.{enter_local, enter_name, enter_parameters}
@@ -36,20 +36,20 @@ use Rattle.pc_walk.specs.StatementsHeld.{HoldsTypesIfAny}
 use Rattle.pc_walk.proofs.KeptLocals.{IsKept, IsKeptIfAny, apart_both}
 use Rattle.pc_walk.proofs.Untouched.{narrowed_here, item_here, noted_here, step_here, suite_here, branches_here}
 use Rattle.pc_walk.proofs.Untouched.{among_apart, none_apart, long_kept}
-use Rattle.pc_check.specs.Internal.StatementWalk.{IsAsLongIfAny, IsLong}
+use Rattle.pc_check.specs.Internal.StatementWalk.{IsAsLongIfAny, HasAllLocals}
 
 -- ---- numbers of locals
 
-none_kept : (table : Table) (env : Option Env) → IsAsLongIfAny table env → IsKeptIfAny (λ x. ⊥) table env
+none_kept : (table : DeclaredTypes) (env : Option Env) → IsAsLongIfAny table env → IsKeptIfAny (λ x. ⊥) table env
 none_kept table None l = tt
 none_kept table (Some env) l = long_kept table env l
 
-kept_long : (base table : Table) (env : Option Env) → length table ≡ length base → IsKeptIfAny (λ x. ⊥) base env
+kept_long : (base table : DeclaredTypes) (env : Option Env) → length table ≡ length base → IsKeptIfAny (λ x. ⊥) base env
     → IsAsLongIfAny table env
 kept_long base table None l h = tt
 kept_long base table (Some env) l h = h.long ∙ sym l
 
-pub suite_long : (context : BodyContext) (w : Walk) (b : Stmts) → IsLong w → IsLong (walk_suite context w b)
+pub suite_long : (context : BodyContext) (w : Walk) (b : Stmts) → HasAllLocals w → HasAllLocals (walk_suite context w b)
 suite_long context w b l =
     let behind = suite_here context (λ x. ⊥) w.table (λ x k. absurd k) w b refl (none_kept w.table w.env l.env_long)
     (none_apart w.table (numbers_of context.context.resolve (bound_by b)))
@@ -61,9 +61,9 @@ suite_long context w b l =
           (behind.broken_here (none_kept w.table w.broken l.broken_long));
     }
 
-pub step_long : (context : BodyContext) (table : Table) (env broken : Option Env) (found : List Note) (s : Stmt)
-    → IsLong (record { table = table; env = env; broken = broken; found = found })
-    → IsLong (step context table env broken found s)
+pub step_long : (context : BodyContext) (table : DeclaredTypes) (env broken : Option Env) (found : List Note) (s : Stmt)
+    → HasAllLocals (record { table = table; env = env; broken = broken; found = found })
+    → HasAllLocals (step context table env broken found s)
 step_long context table env broken found s l = suite_long context
     (record { table = table; env = env; broken = broken; found = found }) (more_stmts s no_stmts) l
 
@@ -221,9 +221,9 @@ module _ (context : BodyContext) (locals : List ℕ) where
       (tested_in resolved rest) t).1
 
   -- after a statement
-  pub step_agrees : (table : Table) (env broken : Option Env) (found : List Note) (s : Stmt) (base : Option Env) →
+  pub step_agrees : (table : DeclaredTypes) (env broken : Option Env) (found : List Note) (s : Stmt) (base : Option Env) →
       WellFormedIfAny context.context.bases env →
-      IsLong (record { table = table; env = env; broken = broken; found = found }) →
+      HasAllLocals (record { table = table; env = env; broken = broken; found = found }) →
       AreAmong locals (touched_by_stmt resolved s) →
       WaysAgree locals base env →
       WaysAgree locals base (step context table env broken found s).env
@@ -239,7 +239,7 @@ module _ (context : BodyContext) (locals : List ℕ) where
   -- ---- branches
 
   -- where a condition is true, and where it is false
-  pub narrowed_agrees : (table : Table) (last : Env) (holds : Test) (c : Expr) (base : Option Env) →
+  pub narrowed_agrees : (table : DeclaredTypes) (last : Env) (holds : Test) (c : Expr) (base : Option Env) →
       IsWellFormedEnv context.context.bases last →
       length last ≡ length table →
       AreAmong locals (tested_locals resolved c) →
@@ -252,7 +252,7 @@ module _ (context : BodyContext) (locals : List ℕ) where
       agree_kept base last (Some (narrowed_at context table holds c last)) a kept
 
   -- after all branches
-  pub branches_agree : (table : Table) (last : Env) (broken : Option Env) (found : List Note) (bs : Branches)
+  pub branches_agree : (table : DeclaredTypes) (last : Env) (broken : Option Env) (found : List Note) (bs : Branches)
       (base : Option Env) →
       IsWellFormedEnv context.context.bases last →
       length last ≡ length table →
@@ -284,7 +284,7 @@ module _ (context : BodyContext) (locals : List ℕ) where
   -- ---- loops
 
   -- the ways from the head of a `while`
-  pub while_agrees : (table : Table) (head : Env) (c : Expr) (b : Stmts) →
+  pub while_agrees : (table : DeclaredTypes) (head : Env) (c : Expr) (b : Stmts) →
       IsWellFormedEnv context.context.bases head →
       length head ≡ length table →
       AreAmong locals (touched_by_while resolved c b) →
@@ -299,7 +299,7 @@ module _ (context : BodyContext) (locals : List ℕ) where
       λ x k. out.same x k ∙ sym (start.same x k)
 
   -- the head of a `for`, and what stands in it
-  pub for_agrees : (table : Table) (head : Env) (n : Name) (b : Stmts) (p : Place) (t : Tree) (found : List Note) →
+  pub for_agrees : (table : DeclaredTypes) (head : Env) (n : Name) (b : Stmts) (p : Place) (t : Tree) (found : List Note) →
       IsWellFormedEnv context.context.bases head →
       length head ≡ length table →
       AreAmong locals (touched_by_for resolved n b) →
@@ -320,7 +320,7 @@ module _ (context : BodyContext) (locals : List ℕ) where
 
 -- ---- the entry of a function
 
-entered_name_long : (table : Table) (env : Env) (r : NameMeaning) (t : Tree) → length env ≡ length table
+entered_name_long : (table : DeclaredTypes) (env : Env) (r : NameMeaning) (t : Tree) → length env ≡ length table
     → length (enter_name table env r t).1 ≡ length (enter_name table env r t).0
 entered_name_long table env (res.Local x) t l = go (bound_type table x)
   where
@@ -333,7 +333,7 @@ entered_name_long table env (res.Class i) t l = l
 entered_name_long table env (res.Builtin b) t l = l
 entered_name_long table env res.None t l = l
 
-pub entered_long : (resolve : List ℕ → NameMeaning) (table : Table) (env : Env) (ps : List TypedParameter)
+pub entered_long : (resolve : List ℕ → NameMeaning) (table : DeclaredTypes) (env : Env) (ps : List TypedParameter)
     → length env ≡ length table → length (enter_parameters resolve table env ps).1
     ≡ length (enter_parameters resolve table env ps).0
 entered_long resolve table env [] l = l

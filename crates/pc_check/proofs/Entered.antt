@@ -24,7 +24,7 @@ use Rattle.pc_flow.specs.WellFormed.{IsWellFormedEnv}
 use Rattle.pc_flow.specs.Stored.{HasOne, env_of}
 use Rattle.pc_flow.proofs.Assigned.{local_current}
 use Rattle.pc_notes.specs.Notes.{Note}
-use Rattle.pc_module_rules.specs.Computed.Statements.{BodyContext, Table, Walk, enter_parameters, enter_local}
+use Rattle.pc_module_rules.specs.Computed.Statements.{BodyContext, DeclaredTypes, Walk, enter_parameters, enter_local}
 use Rattle.pc_module_rules.specs.Computed.Statements.{enter_name}
 use Rattle.pc_module_rules.specs.Computed.Statements.{end_finds, body_context_of, function_finds, walk_suite}
 use Rattle.pc_module_rules.specs.Modules.{entry_parameters, receiver_parameter}
@@ -63,7 +63,7 @@ none_is tree zero = refl
 none_is tree (suc n) = ap (λ l. None ∷ l) (none_is tree n)
 
 -- entering a name that means no local, or a local that is already bound, changes nothing
-pub name_elsewhere : (table : Table) (env : Env) (r : NameMeaning) (t : Tree) → ((x : ℕ) → r ≡ res.Local x → ⊥)
+pub name_elsewhere : (table : DeclaredTypes) (env : Env) (r : NameMeaning) (t : Tree) → ((x : ℕ) → r ≡ res.Local x → ⊥)
     → enter_name table env r t ≡ (table, env)
 name_elsewhere table env (res.Local x) t h = absurd (h x refl)
 name_elsewhere table env (res.Const i) t h = refl
@@ -72,7 +72,7 @@ name_elsewhere table env (res.Class i) t h = refl
 name_elsewhere table env (res.Builtin b) t h = refl
 name_elsewhere table env res.None t h = refl
 
-name_settled : (table : Table) (env : Env) (x : ℕ) (t : Tree) (o : Option Tree) → is_some o ≡ true
+name_settled : (table : DeclaredTypes) (env : Env) (x : ℕ) (t : Tree) (o : Option Tree) → is_some o ≡ true
     → enter_local o table env x t ≡ (table, env)
 name_settled table env x t (Some d) e = refl
 name_settled table env x t None e = absurd (grind (arith, e))
@@ -92,7 +92,7 @@ name_bound tree declared env x t o copied e =
 
 module _ {Store Ty : Type 0} (has : Store → Ty → Type 0) (tree : Ty → Tree) (bases : Bases) (store : Store) where
   -- declared types and an environment of the store that mean these
-  pub record GivesEntry (declared env : List (Option Ty)) (e : Table × Env) : Type 0 where
+  pub record GivesEntry (declared env : List (Option Ty)) (e : DeclaredTypes × Env) : Type 0 where
     pub declared_holds : HoldsTypes (has store) tree bases declared
     pub env_holds : HoldsTypes (has store) tree bases env
     pub is : (env_of tree declared, env_of tree env) ≡ e
@@ -124,7 +124,7 @@ module _ {Store Ty : Type 0} (has : Store → Ty → Type 0) (tree : Ty → Tree
       }
 
 -- parameters one after another
-enter_both : (resolve : List ℕ → NameMeaning) (table : Table) (env : Env) (ps qs : List TypedParameter)
+enter_both : (resolve : List ℕ → NameMeaning) (table : DeclaredTypes) (env : Env) (ps qs : List TypedParameter)
     → enter_parameters resolve table env (ps ++ qs) ≡ enter_parameters resolve
     (enter_parameters resolve table env ps).0 (enter_parameters resolve table env ps).1 qs
 enter_both resolve table env [] qs = refl
@@ -132,7 +132,7 @@ enter_both resolve table env (p ∷ ps) qs = let r = enter_name table env
     (resolve p.name) p.type in enter_both resolve r.0 r.1 ps qs
 
 -- a walk from this entry
-abbrev walk_from : BodyContext → FuncDef → List Note → Table × Env → Walk
+abbrev walk_from : BodyContext → FuncDef → List Note → DeclaredTypes × Env → Walk
 walk_from context f found start = walk_suite context (record
     { table = start.0; env = Some start.1; broken = None; found = found }) f.body
 
@@ -147,7 +147,7 @@ found_from context f found n ps =
 -- the findings in a function, by what its receiver, its parameters and its body come to
 pub function_found : (keeps : Test) (m : Module) (constants : List Tree) (owner : Owner) (f : FuncDef)
     (context : BodyContext)
-    (found : List Note) (n : ℕ) (middle start : Table × Env) (body : Walk) →
+    (found : List Note) (n : ℕ) (middle start : DeclaredTypes × Env) (body : Walk) →
     context ≡ body_context_of keeps m constants owner f →
     n ≡ length (locals owner f) →
     middle ≡ enter_parameters context.context.resolve (none_assigned n) (none_assigned n) (receiver_parameter owner) →
@@ -157,7 +157,7 @@ pub function_found : (keeps : Test) (m : Module) (constants : List Tree) (owner 
     ≡ function_finds keeps m constants owner f found
 function_found keeps m constants owner f context found n middle start body ef en em es eb =
     let resolve = context.context.resolve in
-    let entered = es ∙ ap (λ (r : Table × Env). enter_parameters resolve r.0 r.1 (parameters_of m f.params)) em
+    let entered = es ∙ ap (λ (r : DeclaredTypes × Env). enter_parameters resolve r.0 r.1 (parameters_of m f.params)) em
     ∙ sym (enter_both resolve (none_assigned n) (none_assigned n) (receiver_parameter owner)
     (parameters_of m f.params)) in
     ap (λ (w : Walk). w.found ++ end_finds context.context.bases context.returned f.name.place w.env)

@@ -10,7 +10,7 @@ use Rattle.pc_flow.specs.Narrowing.{tested_locals}
 use Rattle.pc_flow.specs.WellFormed.{IsWellFormedIfAny, IsWellFormedEnv}
 use Rattle.pc_flow.proofs.Conditions.{current_well_formed}
 use Rattle.pc_notes.specs.Notes.{Note}
-use Rattle.pc_module_rules.specs.Computed.Statements.{BodyContext, Table, Walk, narrowed_at, walk_suite}
+use Rattle.pc_module_rules.specs.Computed.Statements.{BodyContext, DeclaredTypes, Walk, narrowed_at, walk_suite}
 use Rattle.pc_walk.specs.Touched.{numbers_of, tested_in, touched_by, touched_by_while}
 use Rattle.pc_walk.specs.Untouched.{AreAmong, AgreesIfAny}
 use Rattle.pc_walk.proofs.KeptLocals.{IsKept, apart_both}
@@ -27,7 +27,7 @@ pub record Branched (touched : List ℕ) (last next : Env) (out : Walk) : Type 0
   pub last_long : IsAsLong out.table next
   pub broken_long : IsAsLongIfAny out.table out.broken
 
-pub branch_settles : (context : BodyContext) (touched : List ℕ) (table : Table) (last : Env) (broken : Option Env)
+pub branch_settles : (context : BodyContext) (touched : List ℕ) (table : DeclaredTypes) (last : Env) (broken : Option Env)
     (found : List Note) (c : Expr) (b : Stmts) →
     IsWellFormedEnv context.context.bases last →
     length last ≡ length table →
@@ -67,7 +67,7 @@ branch_settles context touched table last broken found c b w l g a =
     }
 
 -- and what a program came to that walked so
-pub branch_out : (context : BodyContext) (touched : List ℕ) (table : Table) (last : Env) (broken : Option Env)
+pub branch_out : (context : BodyContext) (touched : List ℕ) (table : DeclaredTypes) (last : Env) (broken : Option Env)
     (found : List Note) (c : Expr) (b : Stmts) (start body : Walk) →
     IsWellFormedEnv context.context.bases last →
     length last ≡ length table →
@@ -87,7 +87,7 @@ branch_out context touched table last broken found c b start body w l g a es eb 
     (branch_settles context touched table last broken found c b w l g a)
 
 -- and a walk over the suite of `else`
-pub otherwise_settles : (context : BodyContext) (touched : List ℕ) (table : Table) (last : Env) (broken : Option Env)
+pub otherwise_settles : (context : BodyContext) (touched : List ℕ) (table : DeclaredTypes) (last : Env) (broken : Option Env)
     (found : List Note) (o : Stmts) →
     IsWellFormedEnv context.context.bases last →
     length last ≡ length table →

@@ -13,7 +13,7 @@ use Rattle.pc_flow.specs.Environment.{Env}
 use Rattle.pc_flow.specs.Stored.{env_of}
 use Rattle.pc_notes.specs.Notes.{Note, notes_of}
 use Rattle.pc_rules.specs.Computed.Standing.{Standing, finds_in}
-use Rattle.pc_module_rules.specs.Computed.Statements.{BodyContext, Table, Walk as Reached, BranchesResult, at}
+use Rattle.pc_module_rules.specs.Computed.Statements.{BodyContext, DeclaredTypes, Walk as Reached, BranchesResult, standing_here}
 use Rattle.pc_module_rules.specs.Computed.Statements.{narrowed_at}
 use Rattle.pc_module_rules.specs.Computed.Statements.{with_way, behind_branches, walk_suite, walk_branches}
 use Rattle.pc_walk.specs.StatementsHeld.{body_context_with}
@@ -34,18 +34,18 @@ pub in_turn : (old first second new : List Note) → new ≡ old ++ (first ++ se
 in_turn old first second new e = e ∙ sym (append_assoc old first second)
 
 -- the state of a walk, by what was found
-abbrev pub reached_by : Table → (env broken : Option Env) → List Note → Reached
+abbrev pub reached_by : DeclaredTypes → (env broken : Option Env) → List Note → Reached
 reached_by table env broken found = record { table = table; env = env; broken = broken; found = found }
 
 module _ (context : BodyContext) where
   -- one branch more
-  pub branch_walked : (table : Table) (last : Env) (ways broken : Option Env) (found : List Note) (c : Expr) (b : Stmts)
+  pub branch_walked : (table : DeclaredTypes) (last : Env) (ways broken : Option Env) (found : List Note) (c : Expr) (b : Stmts)
       (start body : Reached) (last' : Env) (ways' : Option Env)
       → start ≡ record {
         table = table;
         env = Some (narrowed_at context table true c last);
         broken = broken;
-        found = found ++ finds_in (at context table last) None c;
+        found = found ++ finds_in (standing_here context table last) None c;
       }
       → body ≡ walk_suite context start b
       → last' ≡ narrowed_at context table false c last
@@ -141,8 +141,8 @@ module _ {Store Ty : Type 0} (S : StoreOf Store Ty) where
     -- the findings in it
     pub finds_from : (env : List (Option Ty)) (first : Env) → env_of S.tree env ≡ first → (c : Expr)
         → notes_of new.found.now ++ finds_in (standing_in S new env) None c
-        ≡ notes_of old.found.now ++ finds_in (at (body_context_in S old) (env_of S.tree old.declared.now) first) None c
-    finds_from env first e c = λ i. q.found i ++ finds_in (at (body_context_with S.tree (g.context i))
+        ≡ notes_of old.found.now ++ finds_in (standing_here (body_context_in S old) (env_of S.tree old.declared.now) first) None c
+    finds_from env first e c = λ i. q.found i ++ finds_in (standing_here (body_context_with S.tree (g.context i))
         (env_of S.tree (q.declared i)) (e i)) None c
 
   -- the result of a walk that began after other steps

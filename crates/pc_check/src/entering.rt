@@ -11,12 +11,13 @@ ghost use Rattle.pc_class.specs.Facts.{parameters_of};
 ghost use Rattle.pc_flow.specs.Stored.{env_of};
 ghost use Rattle.pc_notes.specs.Notes.{notes_of};
 ghost use Rattle.pc_rules.specs.Computed.Checkers.{CheckerKept as CheckerGoesOn};
+ghost use Rattle.pc_rules.specs.Computed.ModuleParents.{class_parents};
 ghost use Rattle.pc_module_rules.specs.Modules.{receiver_parameter};
 ghost use Rattle.pc_module_rules.specs.Computed.Statements.{body_context_of, function_finds, enter_parameters};
 ghost use Rattle.pc_module_rules.specs.Computed.Statements.{enter_name};
 ghost use Rattle.pc_module_rules.specs.Computed.Statements.{end_finds};
 ghost use Rattle.pc_walk.specs.StatementsHeld.{body_context_with, HoldsContext};
-ghost use Rattle.pc_walk.specs.Walks.{Stands, HoldsOne, WalkKept, Bound, body_context_in};
+ghost use Rattle.pc_walk.specs.Walks.{Stands, HoldsOne, WalkKept, BindsName, body_context_in};
 ghost use Rattle.pc_check.specs.Internal.Entry.{HoldsParameters, entered};
 
 use crate::statements::{LoopExit, check_suite};
@@ -39,7 +40,7 @@ fn enter_name<S: TypeStore>(
 ) -> Result<(), OutOfMemory>
     requires stands { Stands S.TypeStore walk.old env.old }
     requires ty { HoldsOne S.TypeStore walk.old ty.now }
-    ensures bound { OnOk result (Bound S.TypeStore walk.old env.old walk.new env.new
+    ensures bound { OnOk result (BindsName S.TypeStore walk.old env.old walk.new env.new
         (λ f t k. entered (enter_name t k (f.context.resolve name.now) (S.tree ty.now)))) }
     ensures goes_on { WalkKept S.TypeStore walk.old walk.new }
 {
@@ -65,7 +66,7 @@ fn enter<S: TypeStore>(
 ) -> Result<(), OutOfMemory>
     requires stands { Stands S.TypeStore walk.old env.old }
     requires params { HoldsParameters S.TypeStore walk.old params.now }
-    ensures bound { OnOk result (Bound S.TypeStore walk.old env.old walk.new env.new
+    ensures bound { OnOk result (BindsName S.TypeStore walk.old env.old walk.new env.new
         (λ f t k. entered (enter_parameters f.context.resolve t k (parameters_with S.tree params.now)))) }
     ensures goes_on { WalkKept S.TypeStore walk.old walk.new }
 {
@@ -83,7 +84,7 @@ fn enter_receiver<S: TypeStore>(
     owner: Owner,
 ) -> Result<(), OutOfMemory>
     requires { Stands S.TypeStore walk.old env.old }
-    ensures bound { OnOk result (Bound S.TypeStore walk.old env.old walk.new env.new
+    ensures bound { OnOk result (BindsName S.TypeStore walk.old env.old walk.new env.new
         (λ f t k. entered (enter_parameters f.context.resolve t k (receiver_parameter owner)))) }
     ensures goes_on { WalkKept S.TypeStore walk.old walk.new }
 {
@@ -108,7 +109,7 @@ fn find_end<S: TypeStore>(
 ) -> Result<(), OutOfMemory>
     requires { S.has walk.old.store.now walk.old.context.returned.now }
     ensures pushed { OnOk result (notes_of walk.new.found.now ≡ notes_of walk.old.found.now
-        ++ end_finds walk.old.context.globals.now.outline.now.parents.now (S.tree walk.old.context.returned.now) name
+        ++ end_finds (class_parents walk.old.context.globals.now) (S.tree walk.old.context.returned.now) name
         (option_map (env_of S.tree) out.now)) }
     ensures goes_on { WalkKept S.TypeStore walk.old walk.new }
 {

@@ -8,11 +8,12 @@ ghost use Rattle.pc_tree.specs.Tree.{expr_of, name_of, stmt_of, stmt_of_kind, st
 ghost use Rattle.pc_tree.specs.Tree.{no_branches};
 ghost use Rattle.pc_tree.specs.Lists.{branches_of_list, with_branch};
 ghost use Rattle.pc_flow.specs.Stored.{env_of};
+ghost use Rattle.pc_rules.specs.Computed.ModuleParents.{class_parents};
 ghost use Rattle.pc_module_rules.specs.Computed.Statements.{step, walk_suite, walk_branches, behind_branches};
 ghost use Rattle.pc_walk.specs.Touched.{touched_by, touched_by_branches, touched_by_stmt};
 ghost use Rattle.pc_walk.specs.Walks.{Stands, HoldsWay, WalkKept};
-ghost use Rattle.pc_check.specs.Internal.StatementWalk.{IsLong, IsAsLong, ForkSettles};
-ghost use Rattle.pc_check.specs.Internal.Walked.{StandsIn, Settles, StaysSettled, Walked, Forked, reached, forked};
+ghost use Rattle.pc_check.specs.Internal.StatementWalk.{HasAllLocals, IsAsLong, ForkSettles};
+ghost use Rattle.pc_check.specs.Internal.Walked.{StandsIn, ExitSubsumes, StaysSettled, Walked, Forked, reached, forked};
 
 use pc_flow::{BothWays, Env, copy_env};
 use pc_source::{OutOfMemory, Place};
@@ -58,8 +59,8 @@ pub(crate) fn check_suite<S: TypeStore>(
     body: &[Stmt],
 ) -> Result<Option<Env<S::Ty>>, OutOfMemory>
     requires stands { StandsIn S.TypeStore walk.old env exit.old.env }
-    requires long { IsLong (reached S.TypeStore walk.old env exit.old.env) }
-    requires breaks { Settles S.TypeStore walk.old exit.old.unsettled.items env exit.old.env }
+    requires long { HasAllLocals (reached S.TypeStore walk.old env exit.old.env) }
+    requires breaks { ExitSubsumes S.TypeStore walk.old exit.old.unsettled.items env exit.old.env }
     ensures breaks { OnOk result (StaysSettled S.TypeStore walk.old walk.new
         (λ resolve. touched_by resolve (stmts_of_list body.now)) exit.old.unsettled.items exit.new.unsettled.items env
         exit.old.env exit.new.env) }
@@ -85,12 +86,12 @@ fn check_next<S: TypeStore>(
     statement: &Stmt,
 ) -> Result<Option<Env<S::Ty>>, OutOfMemory>
     requires stands { StandsIn S.TypeStore walk.old env exit.old.env }
-    requires long { IsLong (reached S.TypeStore walk.old env exit.old.env) }
-    requires breaks { Settles S.TypeStore walk.old exit.old.unsettled.items env exit.old.env }
+    requires long { HasAllLocals (reached S.TypeStore walk.old env exit.old.env) }
+    requires breaks { ExitSubsumes S.TypeStore walk.old exit.old.unsettled.items env exit.old.env }
     ensures breaks { OnOk result (StaysSettled S.TypeStore walk.old walk.new
         (λ resolve. touched_by_stmt resolve (stmt_of statement.now)) exit.old.unsettled.items exit.new.unsettled.items
         env exit.old.env exit.new.env) }
-    ensures settled { IfOk result (λ out. Settles S.TypeStore walk.new exit.new.unsettled.items out exit.new.env) }
+    ensures settled { IfOk result (λ out. ExitSubsumes S.TypeStore walk.new exit.new.unsettled.items out exit.new.env) }
     ensures walked { IfOk result (λ out. Walked S.TypeStore walk.old env exit.old.env walk.new out exit.new.env
         (λ f w. step f w.table w.env w.broken w.found (stmt_of statement.now))) }
     ensures goes_on { WalkKept S.TypeStore walk.old walk.new }
@@ -121,8 +122,8 @@ fn check_stmt<S: TypeStore>(
     kind: &StmtKind,
 ) -> Result<Option<Env<S::Ty>>, OutOfMemory>
     requires stands { StandsIn S.TypeStore walk.old (Some env) exit.old.env }
-    requires long { IsLong (reached S.TypeStore walk.old (Some env) exit.old.env) }
-    requires breaks { Settles S.TypeStore walk.old exit.old.unsettled.items (Some env) exit.old.env }
+    requires long { HasAllLocals (reached S.TypeStore walk.old (Some env) exit.old.env) }
+    requires breaks { ExitSubsumes S.TypeStore walk.old exit.old.unsettled.items (Some env) exit.old.env }
     ensures breaks { OnOk result (StaysSettled S.TypeStore walk.old walk.new
         (λ resolve. touched_by_stmt resolve (stmt_of_kind first kind.now)) exit.old.unsettled.items
         exit.new.unsettled.items (Some env) exit.old.env exit.new.env) }
@@ -244,9 +245,9 @@ fn check_otherwise<S: TypeStore>(
 ) -> Result<Option<Env<S::Ty>>, OutOfMemory>
     requires stands { StandsIn S.TypeStore walk.old (Some fork.last) exit.old.env }
     requires ways { HoldsWay S.TypeStore walk.old fork.ways.met }
-    requires settled { ForkSettles walk.old.context.globals.now.outline.now.parents.now fork.ways.unsettled.items
+    requires settled { ForkSettles (class_parents walk.old.context.globals.now) fork.ways.unsettled.items
         (forked S.TypeStore walk.old fork.last fork.ways.met exit.old.env) }
-    requires breaks { Settles S.TypeStore walk.old exit.old.unsettled.items (Some fork.last) exit.old.env }
+    requires breaks { ExitSubsumes S.TypeStore walk.old exit.old.unsettled.items (Some fork.last) exit.old.env }
     ensures breaks { OnOk result (StaysSettled S.TypeStore walk.old walk.new
         (λ resolve. touched_by resolve (stmts_of_list otherwise.now)) exit.old.unsettled.items exit.new.unsettled.items
         (Some fork.last) exit.old.env exit.new.env) }
@@ -258,8 +259,8 @@ fn check_otherwise<S: TypeStore>(
 {
     let IfState { last, ways } = fork;
     let out = check_suite(walk, Some(last), exit, otherwise)?;
-    let touched = touched_by(walk.alloc, walk.context.names, &[], otherwise)?;
-    let joined = meet(walk, ways, touched, out)?;
+    let touched = touched_by_if(walk.alloc, walk.context.names, &[], otherwise)?;
+    let joined = join_exit(walk, ways, touched, out)?;
     Ok(joined.met)
 }
 
@@ -274,16 +275,16 @@ fn check_branches<S: TypeStore>(
     branches: &[Branch],
 ) -> Result<IfState<S::Ty>, OutOfMemory>
     requires stands { StandsIn S.TypeStore walk.old (Some env) exit.old.env }
-    requires long { IsLong (reached S.TypeStore walk.old (Some env) exit.old.env) }
-    requires breaks { Settles S.TypeStore walk.old exit.old.unsettled.items (Some env) exit.old.env }
+    requires long { HasAllLocals (reached S.TypeStore walk.old (Some env) exit.old.env) }
+    requires breaks { ExitSubsumes S.TypeStore walk.old exit.old.unsettled.items (Some env) exit.old.env }
     ensures breaks { OnOk result (StaysSettled S.TypeStore walk.old walk.new
         (λ resolve. touched_by_branches resolve (branches_of_list branches.now)) exit.old.unsettled.items
         exit.new.unsettled.items (Some env) exit.old.env exit.new.env) }
     ensures breaks_settle { IfOk result
-        (λ k. Settles S.TypeStore walk.new exit.new.unsettled.items (Some k.last) exit.new.env) }
+        (λ k. ExitSubsumes S.TypeStore walk.new exit.new.unsettled.items (Some k.last) exit.new.env) }
     ensures walked { IfOk result (λ k. Forked S.TypeStore walk.old env None exit.old.env walk.new k.last k.ways.met
         exit.new.env (λ f b. walk_branches f b (branches_of_list branches.now))) }
-    ensures settled { IfOk result (λ k. ForkSettles walk.new.context.globals.now.outline.now.parents.now
+    ensures settled { IfOk result (λ k. ForkSettles (class_parents walk.new.context.globals.now)
         k.ways.unsettled.items (forked S.TypeStore walk.new k.last k.ways.met exit.new.env)) }
     ensures goes_on { WalkKept S.TypeStore walk.old walk.new }
 {
@@ -312,17 +313,17 @@ fn check_branch<S: TypeStore>(
 ) -> Result<IfState<S::Ty>, OutOfMemory>
     requires stands { StandsIn S.TypeStore walk.old (Some fork.last) exit.old.env }
     requires ways { HoldsWay S.TypeStore walk.old fork.ways.met }
-    requires settled { ForkSettles walk.old.context.globals.now.outline.now.parents.now fork.ways.unsettled.items
+    requires settled { ForkSettles (class_parents walk.old.context.globals.now) fork.ways.unsettled.items
         (forked S.TypeStore walk.old fork.last fork.ways.met exit.old.env) }
-    requires breaks { Settles S.TypeStore walk.old exit.old.unsettled.items (Some fork.last) exit.old.env }
+    requires breaks { ExitSubsumes S.TypeStore walk.old exit.old.unsettled.items (Some fork.last) exit.old.env }
     ensures breaks { OnOk result (StaysSettled S.TypeStore walk.old walk.new
         (λ resolve. touched_by_branches resolve (with_branch branch.now no_branches)) exit.old.unsettled.items
         exit.new.unsettled.items (Some fork.last) exit.old.env exit.new.env) }
     ensures breaks_settle { IfOk result
-        (λ k. Settles S.TypeStore walk.new exit.new.unsettled.items (Some k.last) exit.new.env) }
+        (λ k. ExitSubsumes S.TypeStore walk.new exit.new.unsettled.items (Some k.last) exit.new.env) }
     ensures walked { IfOk result (λ k. Forked S.TypeStore walk.old fork.last fork.ways.met exit.old.env walk.new k.last
         k.ways.met exit.new.env (λ f b. walk_branches f b (with_branch branch.now no_branches))) }
-    ensures settled { IfOk result (λ k. ForkSettles walk.new.context.globals.now.outline.now.parents.now
+    ensures settled { IfOk result (λ k. ForkSettles (class_parents walk.new.context.globals.now)
         k.ways.unsettled.items (forked S.TypeStore walk.new k.last k.ways.met exit.new.env)) }
     ensures goes_on { WalkKept S.TypeStore walk.old walk.new }
 {
@@ -337,7 +338,7 @@ fn check_branch<S: TypeStore>(
     let out = check_suite(walk, Some(where_true), exit, &branch.body)?;
     // A `break` in the suite may have removed these, but the next condition starts from before the suite.
     note_locals(&exit.env, &touched, &mut exit.unsettled)?;
-    let ways = meet(walk, ways, touched, out)?;
+    let ways = join_exit(walk, ways, touched, out)?;
     Ok(IfState {
         last: where_false,
         ways,

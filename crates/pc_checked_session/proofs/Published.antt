@@ -30,7 +30,7 @@ use Rattle.pc_documents.specs.Documents.{OpenDocument}
 use Rattle.pc_tree.specs.declared.code.Code.{Code}
 use Rattle.pc_tree.specs.declared.code.Finding.{Finding}
 use Rattle.pc_tree.specs.Code.{text_of}
-use Rattle.pc_checked_session.specs.Found.{Said, types_of, said_by_item, said_by_row, IsFoundIn}
+use Rattle.pc_checked_session.specs.Found.{Said, flow_type_texts, said_by_item, said_by_row, IsFoundIn}
 use Rattle.pc_checked_session.specs.Published.{row_message, row_data, AreOfText, AreOfDocument, PublishesWhere, IsPublishedOf}
 use Rattle.pc_session.specs.Notices.{IsNoticeOf}
 use Rattle.pc_session.proofs.Notices.{opened_is_kept, changed_is_kept}
@@ -45,7 +45,7 @@ said_data agreed text said = diagnostic_data (entry_at agreed.codes_page (anchor
     (text_of said.finding.code) (row_message said.finding.code said.flow)
 
 item_text : (code : Code) (flow : Option FlowTypes) → message_text code flow
-    ≡ row_message code (option_map types_of flow)
+    ≡ row_message code (option_map flow_type_texts flow)
 item_text code None = refl
 item_text code (Some flow) = refl
 

@@ -40,12 +40,12 @@ abbrev pub said_by_row : Row → Said
 said_by_row row = record { finding = row.finding; flow = shown_flow (row_flow row) }
 
 -- the texts of the two types of an item's flow
-abbrev pub types_of : FlowTypes → List ℕ × List ℕ
-types_of flow = (string_bytes flow.from, string_bytes flow.to)
+abbrev pub flow_type_texts : FlowTypes → List ℕ × List ℕ
+flow_type_texts flow = (string_bytes flow.from, string_bytes flow.to)
 
 -- the content of an item
 abbrev pub said_by_item : ReportedFinding → Said
-said_by_item item = record { finding = item.finding; flow = option_map types_of item.flow }
+said_by_item item = record { finding = item.finding; flow = option_map flow_type_texts item.flow }
 
 -- the findings of a text: items with the content, in order, of rows for which the headline holds; or its refusal
 abbrev pub IsFoundIn : List ℕ → CheckOutcome → Type 0

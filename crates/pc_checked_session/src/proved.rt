@@ -2,7 +2,7 @@
 
 ghost use Rattle.std.specs.Prelude.{◌≡◌, IfOk, map, option_map};
 ghost use Rattle.pc_message_loop.specs.Runs.{OnEnd};
-ghost use Rattle.pc_checked_session.specs.Found.{types_of, shown, said_by_item, said_by_row, IsFoundIn};
+ghost use Rattle.pc_checked_session.specs.Found.{flow_type_texts, shown, said_by_item, said_by_row, IsFoundIn};
 
 use pc_documents::{CheckOutcome, Checker, FlowTypes, ReportedFinding};
 use pc_message_loop::{ServingEnd, serve};
@@ -20,7 +20,7 @@ const SHOWN_LIMIT: usize = 200;
 
 /// Returns the texts of two types as a flow, or `None` if one is too long to be shown.
 fn shown(alloc: Global, from: &str, to: &str) -> Result<Option<FlowTypes>, AllocError>
-    ensures { IfOk result (λ flow. option_map types_of flow ≡ shown from.now to.now) }
+    ensures { IfOk result (λ flow. option_map flow_type_texts flow ≡ shown from.now to.now) }
 {
     if from.len() > SHOWN_LIMIT || to.len() > SHOWN_LIMIT {
         return Ok(None);
@@ -65,8 +65,9 @@ impl Checker for Proved {
         let report = match check(alloc, text.as_bytes()) {
             Ok(report) => report,
             Err(CheckFault::Refused(refusal)) => return Ok(CheckOutcome::Refused(refusal)),
+            // No device is read or written here, so an allocation failed.
             Err(CheckFault::OutOfMemory | CheckFault::Read | CheckFault::Write) => {
-                return Err(OutOfMemory);
+                return Err(OutOfMemory::from(AllocError));
             }
         };
         Ok(CheckOutcome::Items(items_of(alloc, report.rows())?))

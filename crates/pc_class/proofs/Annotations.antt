@@ -11,7 +11,7 @@ use Rattle.pc_annotations.specs.Listed.{option_findings}
 use Rattle.pc_class.specs.Annotated.{params_annotated, field_annotated, method_annotated, fields_annotated}
 use Rattle.pc_class.specs.Annotated.{methods_annotated}
 use Rattle.pc_class.specs.declared.entries.ClassMember.{ClassMember as RustEntry}
-use Rattle.pc_class.specs.Entries.{Inherited, MemberEntry, entry_seen, entries_of, number_after, parameter_made}
+use Rattle.pc_class.specs.Entries.{Inherited, MemberEntry, entry_seen, entries_of_members, number_after, parameter_made}
 use Rattle.pc_class.specs.Entries.{field_made, methods_made}
 use Rattle.pc_class.specs.Facts.{Method, method_made}
 use Rattle.pc_class.specs.Outlines.{own_field, own_method}
@@ -35,14 +35,14 @@ members_seen [] = refl
 members_seen (e ∷ es) = ap (λ (ms : List Member). member_of e.member.now ∷ ms) (members_seen es)
 
 members_back : (h : Inherited) (before : List (List ℕ)) (n : ℕ) (ms : List Member)
-    → map (λ (e : MemberEntry). e.member) (entries_of h before n ms) ≡ ms
+    → map (λ (e : MemberEntry). e.member) (entries_of_members h before n ms) ≡ ms
 members_back h before n [] = refl
 members_back h before n (x ∷ rest) = ap (λ (ms : List Member). x ∷ ms)
     (members_back h ((name_of_member x).text ∷ before) (number_after n x) rest)
 
 -- entries of members are entries of just these
 pub members_are : (es : List RustEntry) (h : Inherited) (ms : List Member)
-    → map entry_seen es ≡ entries_of h [] 0 ms → members_of_entries es ≡ ms
+    → map entry_seen es ≡ entries_of_members h [] 0 ms → members_of_entries es ≡ ms
 members_are es h ms e = members_seen es ∙ ap (map (λ (x : MemberEntry). x.member)) e ∙ members_back h [] 0 ms
 
 module _ (m : Module) where

@@ -18,13 +18,13 @@ use Rattle.pc_class.specs.Facts.{TypedParameter, Method, ClassFacts, base_facts,
 use Rattle.pc_class.specs.Facts.{own_methods}
 use Rattle.pc_shared_maps.specs.NameMaps.{NameMaps, named_at, IsMap, KeepsNamed}
 use Rattle.pc_class.specs.Entries as entries
-use Rattle.pc_class.specs.Entries.{HasMaps, inherited_by, inherited_in, entries_of, class_entries, defaulted_in}
+use Rattle.pc_class.specs.Entries.{HasMaps, inherited_by, inherited_in, entries_of_members, class_entries, defaulted_in}
 use Rattle.pc_class.specs.Outlines.{at_number, IsNumberIn, first_named, IsMapOf, field_name}
 use Rattle.pc_class.specs.Outlines.{method_name as class_method_name, own_field, own_method, all_own, AreNew}
 use Rattle.pc_class.specs.Tables.{ClassEntry, empty_entry, inherited_entry, HasParameter, HasMethod, parameter_with}
 use Rattle.pc_class.specs.Tables.{method_with, class_with, classes_with}
 use Rattle.pc_class.specs.declared.parts.ClassArena.{ClassArena}
-use Rattle.pc_class.specs.Parts.{parameter_name, stored_method_name, inherited_node, entries_behind, entries_in}
+use Rattle.pc_class.specs.Parts.{parameter_name, stored_method_name, inherited_node, entries_behind, classes_of_table}
 use Rattle.pc_class.specs.Parts.{AreNodes, IsClassTable, HasParts}
 use Rattle.pc_class.specs.Built.{Added, IsClassAt}
 use Rattle.pc_class.proofs.Holding.{held_kept, named_on}
@@ -137,7 +137,7 @@ module _ {Ty : Type 0} (tree : Ty → Tree) (m : Module) (d : NameMaps) (F : Lis
         ∙ some_map (method_with tree) (first_named stored_method_name base_entry.methods n));
   }
 
-  pub entries_are : entries_of (inherited_in d base_node.held) [] 0 class.members ≡ class_entries
+  pub entries_are : entries_of_members (inherited_in d base_node.held) [] 0 class.members ≡ class_entries
       (inherited_by base_class) class
   entries_are = entries_same (inherited_in d base_node.held) (inherited_by (class_with tree base_entry)) same_names [] 0
       class.members ∙ ap (λ (b : ClassFacts). class_entries (inherited_by b) class) (sym base_is)
@@ -266,9 +266,9 @@ module _ {Ty : Type 0} (tree : Ty → Tree) (m : Module) (d : NameMaps) (F : Lis
             methods = own_methods m B (length ns) 0 [] class.members ++ B.methods;
           } in x) based
 
-pub entries_are_behind : {Ty : Type 0} (p : ClassArena Ty) → entries_in p ≡ entries_behind p.fields.items
+pub entries_are_behind : {Ty : Type 0} (p : ClassArena Ty) → classes_of_table p ≡ entries_behind p.fields.items
     p.methods.items [] p.classes.items
-unfolding entries_in
+unfolding classes_of_table
 entries_are_behind p = refl
 
 pub has_fields : {Ty : Type 0} (has has2 : Ty → Type 0) → ((t : Ty) → has t → has2 t) → (ps : List (RustParameter Ty))
@@ -287,12 +287,12 @@ module _ {Ty : Type 0} (tree : Ty → Tree) (m : Module) (p q : ClassArena Ty) (
     (d1 : NameMaps) (k1 : KeepsNamed p.named d1) (k2 : KeepsNamed d1 q.named) (at_fields at_methods : ℕ)
     (has0 has has2 : Ty → Type 0) (xs : List entries.MemberEntry)
     (same : xs ≡ class_entries (inherited_by (base_class tree m p.named p.fields.items p.methods.items p.classes.items
-    (entries_in p) table class is base based)) class) (b : Bool)
+    (classes_of_table p) table class is base based)) class) (b : Bool)
     (b_is : b ≡ defaulted_in (inherited_node p.classes.items base).defaulted xs)
     (f : Added parameter_name (HasParameter has) (parameter_with tree) d1 p.fields.items q.fields.items at_fields
-    (inherited_entry (entries_in p) base).fields [] (all_own (own_field m) xs))
+    (inherited_entry (classes_of_table p) base).fields [] (all_own (own_field m) xs))
     (g : Added stored_method_name (HasMethod has2) (method_with tree) q.named p.methods.items q.methods.items at_methods
-    [] (inherited_entry (entries_in p) base).methods (all_own (own_method m (length p.classes.items)) xs))
+    [] (inherited_entry (classes_of_table p) base).methods (all_own (own_method m (length p.classes.items)) xs))
     (n : ClassNode)
     (n_is : n ≡ (let x : ClassNode = record {
       base = base;
@@ -308,41 +308,41 @@ module _ {Ty : Type 0} (tree : Ty → Tree) (m : Module) (p q : ClassArena Ty) (
   abbrev entry_new : ClassEntry Ty
   entry_new = record {
     base = base;
-    fields = (inherited_entry (entries_in p) base).fields ++ f.these;
+    fields = (inherited_entry (classes_of_table p) base).fields ++ f.these;
     methods =
-        g.these ++ (inherited_entry (entries_in p) base).methods;
+        g.these ++ (inherited_entry (classes_of_table p) base).methods;
   }
 
   nodes_are : q.classes.items ≡ p.classes.items ++ node_with tree m p.named p.fields.items p.methods.items
-      p.classes.items (entries_in p) table class is base based d1 q.named k1 k2 at_fields at_methods has has2 xs same b
+      p.classes.items (classes_of_table p) table class is base based d1 q.named k1 k2 at_fields at_methods has has2 xs same b
       b_is q.fields.items q.methods.items ∷ []
   nodes_are = all ∙ ap (λ (x : ClassNode). p.classes.items ++ x ∷ []) n_is
 
-  entries_new : entries_in q ≡ entries_in p ++ entry_new ∷ []
+  entries_new : classes_of_table q ≡ classes_of_table p ++ entry_new ∷ []
   entries_new =
       entries_are_behind q
       ∙ ap (entries_behind q.fields.items q.methods.items []) nodes_are
-      ∙ entries_added tree m p.named p.fields.items p.methods.items p.classes.items (entries_in p) table class is base
+      ∙ entries_added tree m p.named p.fields.items p.methods.items p.classes.items (classes_of_table p) table class is base
       based d1 q.named k1 k2 at_fields at_methods has has2 xs same b b_is q.fields.items q.methods.items f g
       (entries_are_behind p)
 
   pub table_new : IsClassTable q
   table_new =
-      subst (λ (ns : List ClassNode). AreNodes q.named q.fields.items q.methods.items ns (entries_in q)) (sym nodes_are)
+      subst (λ (ns : List ClassNode). AreNodes q.named q.fields.items q.methods.items ns (classes_of_table q)) (sym nodes_are)
       (subst (λ (es : List (ClassEntry Ty)). AreNodes q.named q.fields.items q.methods.items
-      (p.classes.items ++ node_with tree m p.named p.fields.items p.methods.items p.classes.items (entries_in p)
+      (p.classes.items ++ node_with tree m p.named p.fields.items p.methods.items p.classes.items (classes_of_table p)
       table class is base based d1 q.named k1 k2 at_fields at_methods has has2 xs same b b_is q.fields.items
       q.methods.items ∷ []) es) (sym entries_new)
-      (nodes_added tree m p.named p.fields.items p.methods.items p.classes.items (entries_in p) table class is base
+      (nodes_added tree m p.named p.fields.items p.methods.items p.classes.items (classes_of_table p) table class is base
       based d1 q.named k1 k2 at_fields at_methods has has2 xs same b b_is q.fields.items q.methods.items f g))
 
-  pub classes_new : classes_with tree (entries_in q) ≡ classes_with tree (entries_in p) ++ class_facts_behind m
-      (classes_with tree (entries_in p)) (length p.classes.items) class ∷ []
+  pub classes_new : classes_with tree (classes_of_table q) ≡ classes_with tree (classes_of_table p) ++ class_facts_behind m
+      (classes_with tree (classes_of_table p)) (length p.classes.items) class ∷ []
   classes_new =
       ap (classes_with tree) entries_new
-      ∙ map-append (class_with tree) (entries_in p) (entry_new ∷ [])
-      ∙ ap (λ (c : ClassFacts). classes_with tree (entries_in p) ++ c ∷ [])
-      (class_added tree m p.named p.fields.items p.methods.items p.classes.items (entries_in p) table class is base
+      ∙ map-append (class_with tree) (classes_of_table p) (entry_new ∷ [])
+      ∙ ap (λ (c : ClassFacts). classes_with tree (classes_of_table p) ++ c ∷ [])
+      (class_added tree m p.named p.fields.items p.methods.items p.classes.items (classes_of_table p) table class is base
       based d1 q.named k1 k2 at_fields at_methods has has2 xs same b b_is q.fields.items q.methods.items f g)
 
   pub given_new : HasParts has0 p → ((t : Ty) → has0 t → has2 t) → ((t : Ty) → has t → has2 t) → HasParts has2 q

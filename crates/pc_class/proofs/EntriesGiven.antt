@@ -8,10 +8,10 @@ use Rattle.pc_class.specs.declared.parts.Span.{Span}
 use Rattle.pc_class.specs.declared.parts.ClassNode.{ClassNode}
 use Rattle.pc_class.specs.declared.parts.ClassArena.{ClassArena}
 use Rattle.pc_class.specs.Tables.{ClassEntry, inherited_entry, HasParameter, HasMethod, HasEntry, HasEntries}
-use Rattle.pc_class.specs.Parts.{part, entry_over, entries_behind, entries_in, HasParts}
+use Rattle.pc_class.specs.Parts.{items_in_span, entry_over, entries_behind, classes_of_table, HasParts}
 use Rattle.pc_class.proofs.ClassAdded.{entries_are_behind}
 
-all_part : {X : Type 0} (P : X → Type 0) (xs : List X) (s : Span) → All P xs → All P (part xs s)
+all_part : {X : Type 0} (P : X → Type 0) (xs : List X) (s : Span) → All P xs → All P (items_in_span xs s)
 all_part P xs s h = All-take P _ _ (All-drop P s.start xs h)
 
 module _ {Ty : Type 0} (has : Ty → Type 0) where
@@ -31,12 +31,12 @@ module _ {Ty : Type 0} (has : Ty → Type 0) (F : List (RustParameter Ty)) (M : 
   entries_given es (n ∷ ns) h =
       let b = inherited_given has es n.base h in
       entries_given (es ++ entry_over F M es n ∷ []) ns (All-push (HasEntry has) es (entry_over F M es n) h (record {
-        fields = All-append (HasParameter has) (inherited_entry es n.base).fields (part F n.fields) b.fields
+        fields = All-append (HasParameter has) (inherited_entry es n.base).fields (items_in_span F n.fields) b.fields
             (all_part (HasParameter has) F n.fields f);
-        methods = All-append (HasMethod has) (part M n.methods) (inherited_entry es n.base).methods
+        methods = All-append (HasMethod has) (items_in_span M n.methods) (inherited_entry es n.base).methods
             (all_part (HasMethod has) M n.methods g) b.methods;
       }))
 
-pub table_given : {Ty : Type 0} (has : Ty → Type 0) (p : ClassArena Ty) → HasParts has p → HasEntries has (entries_in p)
+pub table_given : {Ty : Type 0} (has : Ty → Type 0) (p : ClassArena Ty) → HasParts has p → HasEntries has (classes_of_table p)
 table_given has p h = subst (HasEntries has) (sym (entries_are_behind p))
     (entries_given has p.fields.items p.methods.items h.fields h.methods [] p.classes.items (All-nil (HasEntry has)))

@@ -11,8 +11,8 @@ use Rattle.pc_scope.specs.Reserved.{is_builtin_name}
 use Rattle.pc_scope.specs.Resolution.{is_one_of}
 use Rattle.pc_class.specs.declared.entries.ClassMember.{ClassMember as RustEntry}
 use Rattle.pc_shared_maps.specs.NameMaps.{with_text}
-use Rattle.pc_class.specs.Entries.{Inherited, MemberEntry, member_binds, member_clashes, entry_of, number_after}
-use Rattle.pc_class.specs.Entries.{entries_of, entry_seen}
+use Rattle.pc_class.specs.Entries.{Inherited, MemberEntry, member_binds, member_clashes, entry_of_member, number_after}
+use Rattle.pc_class.specs.Entries.{entries_of_members, entry_seen}
 
 -- the same names, in any order
 abbrev pub SameNames : List (List ℕ) → List (List ℕ) → Type 0
@@ -32,7 +32,7 @@ same_clashes h b c s (field_member f) = ap (λ a. a || (h.has_field f.name.text 
 same_clashes h b c s (method_member f) = ap (λ a. a || h.has_field f.name.text) (s f.name.text)
 
 pub same_entry : (h : Inherited) (b c : List (List ℕ)) → SameNames b c → (n : ℕ) (x : Member)
-    → entry_of h b n x ≡ entry_of h c n x
+    → entry_of_member h b n x ≡ entry_of_member h c n x
 same_entry h b c s n x = ap (λ y. let e : MemberEntry = record {
   member = x;
   number = n;
@@ -43,12 +43,12 @@ same_entry h b c s n x = ap (λ y. let e : MemberEntry = record {
     record { member = x; number = n; binds = member_binds h c x; clashes = y } in e) (same_clashes h b c s x)
 
 pub same_entries : (h : Inherited) (b c : List (List ℕ)) → SameNames b c → (n : ℕ) (xs : List Member)
-    → entries_of h b n xs ≡ entries_of h c n xs
+    → entries_of_members h b n xs ≡ entries_of_members h c n xs
 same_entries h b c s n [] = refl
 same_entries h b c s n (x ∷ xs) =
     let t = (name_of_member x).text in
-    ap (λ (e : MemberEntry). e ∷ entries_of h (t ∷ b) (number_after n x) xs) (same_entry h b c s n x)
-    ∙ ap (λ (es : List MemberEntry). entry_of h c n x ∷ es) (same_entries h (t ∷ b) (t ∷ c)
+    ap (λ (e : MemberEntry). e ∷ entries_of_members h (t ∷ b) (number_after n x) xs) (same_entry h b c s n x)
+    ∙ ap (λ (es : List MemberEntry). entry_of_member h c n x ∷ es) (same_entries h (t ∷ b) (t ∷ c)
     (λ u. ap (λ a. bytes_eq u t || a) (s u)) (number_after n x) xs)
 
 -- one more name, put in where it is new
@@ -77,23 +77,23 @@ among_with u names t = go (is_one_of u names) refl
 pub entry_more : (h : Inherited) (total : List MemberEntry) (done new : List RustEntry) (e : RustEntry)
     (before after : List (List ℕ)) (n n' i : ℕ) (ms : List RustMember) (x : RustMember) → i < length ms
     → x ≡ get_or ms i x
-    → map entry_seen done ++ entries_of h before n (map member_of (drop i ms)) ≡ total → new ≡ done ++ e ∷ []
-    → entry_seen e ≡ entry_of h before n (member_of x)
+    → map entry_seen done ++ entries_of_members h before n (map member_of (drop i ms)) ≡ total → new ≡ done ++ e ∷ []
+    → entry_seen e ≡ entry_of_member h before n (member_of x)
     → after ≡ with_text before (name_of_member (member_of x)).text → n' ≡ number_after n (member_of x)
-    → map entry_seen new ++ entries_of h after n' (map member_of (drop (i + 1) ms)) ≡ total
+    → map entry_seen new ++ entries_of_members h after n' (map member_of (drop (i + 1) ms)) ≡ total
 entry_more h total done new e before after n n' i ms x less is inv pushed seen names number =
     let t = (name_of_member (member_of x)).text in
     let rest = map member_of (drop (i + 1) ms) in
-    ap (λ (es : List RustEntry). map entry_seen es ++ entries_of h after n' rest) pushed
-    ∙ ap (λ (es : List MemberEntry). es ++ entries_of h after n' rest) (seen_end done)
-    ∙ append_assoc (map entry_seen done) (entry_seen e ∷ []) (entries_of h after n' rest)
-    ∙ ap (λ (y : MemberEntry). map entry_seen done ++ (y ∷ entries_of h after n' rest)) seen
-    ∙ ap (λ k. map entry_seen done ++ (entry_of h before n (member_of x) ∷ entries_of h after k rest)) number
-    ∙ ap (λ (b : List (List ℕ)). map entry_seen done ++ (entry_of h before n (member_of x) ∷ entries_of h b
+    ap (λ (es : List RustEntry). map entry_seen es ++ entries_of_members h after n' rest) pushed
+    ∙ ap (λ (es : List MemberEntry). es ++ entries_of_members h after n' rest) (seen_end done)
+    ∙ append_assoc (map entry_seen done) (entry_seen e ∷ []) (entries_of_members h after n' rest)
+    ∙ ap (λ (y : MemberEntry). map entry_seen done ++ (y ∷ entries_of_members h after n' rest)) seen
+    ∙ ap (λ k. map entry_seen done ++ (entry_of_member h before n (member_of x) ∷ entries_of_members h after k rest)) number
+    ∙ ap (λ (b : List (List ℕ)). map entry_seen done ++ (entry_of_member h before n (member_of x) ∷ entries_of_members h b
     (number_after n (member_of x)) rest)) names
-    ∙ ap (λ (es : List MemberEntry). map entry_seen done ++ (entry_of h before n (member_of x) ∷ es))
+    ∙ ap (λ (es : List MemberEntry). map entry_seen done ++ (entry_of_member h before n (member_of x) ∷ es))
     (same_entries h (with_text before t) (t ∷ before) (among_with t before) (number_after n (member_of x)) rest)
-    ∙ ap (λ (ys : List RustMember). map entry_seen done ++ entries_of h before n (map member_of ys))
+    ∙ ap (λ (ys : List RustMember). map entry_seen done ++ entries_of_members h before n (map member_of ys))
     (sym (cons_at ms i x less is))
     ∙ inv
   where

@@ -18,7 +18,7 @@ use Rattle.pc_tree.proofs.Among.{none_among, first_among, among_first, either}
 use Rattle.pc_tree.proofs.Finds.{at_both}
 use Rattle.pc_class.specs.Facts.{TypedParameter, ClassFacts}
 use Rattle.pc_class.specs.Findings.{IsFieldBehind, base_class, member_texts, has_default_before}
-use Rattle.pc_class.specs.Entries.{Inherited, inherited_by, member_binds, entry_of, number_after, entries_of}
+use Rattle.pc_class.specs.Entries.{Inherited, inherited_by, member_binds, entry_of_member, number_after, entries_of_members}
 use Rattle.pc_class.specs.Entries.{class_entries, member_default, entry_default, defaulted_after, is_late, late_places}
 use Rattle.pc_class.specs.Entries.{defaulted_in}
 use Rattle.pc_class.proofs.EntryWalk.{same_binds}
@@ -91,17 +91,17 @@ module _ (h : Inherited) (f : Finding) where
     here : slice_get ms at ≡ Some (field_member field)
     binds : member_binds h (names_after before (take at ms)) (field_member field) ≡ true
     none : is_some field.default ≡ false
-    behind : defaulted_in d (entries_of h before n (take at ms)) ≡ true
+    behind : defaulted_in d (entries_of_members h before n (take at ms)) ≡ true
     is : f ≡ finding field.name.place E08
 
   late_at : (before : List (List ℕ)) (n : ℕ) (d : Bool) (ms : List Member)
-      → Contains (at_code E08 (late_places d (entries_of h before n ms))) f → LateAt before n d ms
+      → Contains (at_code E08 (late_places d (entries_of_members h before n ms))) f → LateAt before n d ms
   late_at before n d [] c = absurd (none_among f c)
   late_at before n d (x ∷ ms) c =
-      let e = entry_of h before n x in
+      let e = entry_of_member h before n x in
       let ps = one_if (is_late d (entry_default e)) (name_of_member x).place in
       let qs = late_places (defaulted_after d (entry_default e))
-      (entries_of h ((name_of_member x).text ∷ before) (number_after n x) ms) in
+      (entries_of_members h ((name_of_member x).text ∷ before) (number_after n x) ms) in
       either (at_code E08 ps) (at_code E08 qs) f (subst (λ (fs : List Finding). Contains fs f) (at_both E08 ps qs) c)
       (λ a. let r = at_one (is_late d (entry_default e)) (name_of_member x).place f a in
       let p = late_plain d (member_binds h before x) x r.0 in
@@ -128,26 +128,26 @@ module _ (h : Inherited) (f : Finding) where
   to_late : (before : List (List ℕ)) (n : ℕ) (d : Bool) (ms : List Member) (at : ℕ) (field : Field)
       → slice_get ms at ≡ Some (field_member field) → member_binds h (names_after before (take at ms))
       (field_member field) ≡ true → is_some field.default ≡ false
-      → defaulted_in d (entries_of h before n (take at ms)) ≡ true → f ≡ finding field.name.place E08
-      → Contains (at_code E08 (late_places d (entries_of h before n ms))) f
+      → defaulted_in d (entries_of_members h before n (take at ms)) ≡ true → f ≡ finding field.name.place E08
+      → Contains (at_code E08 (late_places d (entries_of_members h before n ms))) f
   to_late before n d [] at field here binds none behind is = absurd (grind (arith, here))
   to_late before n d (x ∷ ms) zero field here binds none behind is =
-      let e = entry_of h before n (field_member field) in
+      let e = entry_of_member h before n (field_member field) in
       let ps = one_if (is_late d (entry_default e)) field.name.place in
-      let qs = late_places (defaulted_after d (entry_default e)) (entries_of h (field.name.text ∷ before) n ms) in
+      let qs = late_places (defaulted_after d (entry_default e)) (entries_of_members h (field.name.text ∷ before) n ms) in
       let late : is_late d (entry_default e) ≡ true =
       ap (λ b. is_late d (if b then Some (is_some field.default) else None)) binds ∙ ap (λ b. d && not b) none
       ∙ ap (λ b. b && true) behind in
-      subst (λ (y : Member). Contains (at_code E08 (late_places d (entries_of h before n (y ∷ ms)))) f)
+      subst (λ (y : Member). Contains (at_code E08 (late_places d (entries_of_members h before n (y ∷ ms)))) f)
       (sym (same_Some _ _ here))
       (subst (λ (fs : List Finding). Contains fs f) (sym (at_both E08 ps qs))
       (Contains-append_left (at_code E08 ps) (at_code E08 qs) f
       (subst (Contains (at_code E08 ps)) (sym is) (to_one (is_late d (entry_default e)) field.name.place late))))
   to_late before n d (x ∷ ms) (suc at) field here binds none behind is =
-      let e = entry_of h before n x in
+      let e = entry_of_member h before n x in
       let ps = one_if (is_late d (entry_default e)) (name_of_member x).place in
       let qs = late_places (defaulted_after d (entry_default e))
-      (entries_of h ((name_of_member x).text ∷ before) (number_after n x) ms) in
+      (entries_of_members h ((name_of_member x).text ∷ before) (number_after n x) ms) in
       subst (λ (fs : List Finding). Contains fs f) (sym (at_both E08 ps qs))
       (Contains-append_right (at_code E08 ps) (at_code E08 qs) f
       (to_late ((name_of_member x).text ∷ before) (number_after n x) (defaulted_after d (entry_default e)) ms at field
@@ -158,9 +158,9 @@ module _ (h : Inherited) (f : Finding) where
 module _ (m : Module) (base : ClassFacts) where
   -- a default before a member, by entries
   default_before : (ms : List Member) → defaulted_in (list_any (λ (p : TypedParameter). p.has_default) base.fields)
-      (entries_of (inherited_by base) [] 0 ms) ≡ has_default_before m base ms
+      (entries_of_members (inherited_by base) [] 0 ms) ≡ has_default_before m base ms
   default_before ms = defaults_are m (list_any (λ (p : TypedParameter). p.has_default) base.fields)
-      (entries_of (inherited_by base) [] 0 ms)
+      (entries_of_members (inherited_by base) [] 0 ms)
       ∙ ap (λ (ps : List TypedParameter). list_any (λ (p : TypedParameter). p.has_default) base.fields
       || list_any (λ (p : TypedParameter). p.has_default) ps) (sym (fields_are m base [] 0 ms))
 

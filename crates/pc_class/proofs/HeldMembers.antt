@@ -14,7 +14,7 @@ use Rattle.pc_tree.specs.Tree.{Member, field_member, method_member, ClassDef, Mo
 use Rattle.pc_scope.specs.Reserved.{is_builtin_name}
 use Rattle.pc_scope.specs.Resolution.{is_one_of}
 use Rattle.pc_scope.proofs.TextMaps.{turned}
-use Rattle.pc_class.specs.Entries.{inherited_by, member_binds, member_clashes, number_after, entries_of, clash_places}
+use Rattle.pc_class.specs.Entries.{inherited_by, member_binds, member_clashes, number_after, entries_of_members, clash_places}
 use Rattle.pc_class.specs.Entries.{parameter_made}
 use Rattle.pc_class.specs.Facts.{TypedParameter, Method, ClassFacts, empty_class, field_by_name, method_by_name}
 use Rattle.pc_class.specs.Facts.{method_made, own_fields, own_methods}
@@ -104,7 +104,7 @@ module _ (m : Module) (base : ClassFacts) (hs : List HeldMember) (tells : Tells 
 
   -- the members that clash are those whose entries clash
   pub clashes_are : (before : List (List ℕ)) (n : ℕ) (ms : List Member) → clashes_among before hs ms ≡ clash_places
-      (entries_of (inherited_by base) before n ms)
+      (entries_of_members (inherited_by base) before n ms)
   clashes_are before n [] = refl
   clashes_are before n (x ∷ ms) =
       ap (λ b. one_if b (name_of_member x).place ++ clashes_among ((name_of_member x).text ∷ before) hs ms)

@@ -13,12 +13,12 @@ use Rattle.pc_scope.specs.Resolution.{index_of}
 use Rattle.pc_shared_maps.specs.declared.lists.ListPlace.{ListPlace}
 use Rattle.pc_shared_maps.specs.declared.lists.SharedList.{SharedList}
 use Rattle.pc_shared_maps.specs.declared.lists.SharedLists.{SharedLists}
-use Rattle.pc_shared_maps.specs.SharedLists.{empty_list, seat_at, needed_or, needed_at, HasRoom, AreNamed, KeepsLists}
+use Rattle.pc_shared_maps.specs.SharedLists.{empty_list, list_place_at, needed_or, needed_at, HasRoom, AreNamed, KeepsLists}
 use Rattle.pc_shared_maps.proofs.Naming.{map_end, map_length}
 use Rattle.pc_class.specs.declared.table.Parameter.{Parameter as RustParameter}
-use Rattle.pc_class.specs.FieldLists.{IsSeat, IsSeatIfAny, IsListOf, fields_in, list_at}
+use Rattle.pc_class.specs.FieldLists.{IsListPlace, IsSeatIfAny, IsListOf, fields_in, list_at}
 use Rattle.pc_class.specs.Listed.{names_listed, needed_in, is_defaulted, parameter_name}
-use Rattle.pc_class.specs.Parts.{part}
+use Rattle.pc_class.specs.Parts.{items_in_span}
 use Rattle.pc_class.specs.Tables.{ClassEntry, empty_entry, inherited_entry}
 use Rattle.pc_class.proofs.TableFields.{span, part_more, part_none}
 use Rattle.pc_class.proofs.TableMore.{get_before, get_last, index_before}
@@ -53,7 +53,7 @@ module _ {Ty : Type 0} where
 
   -- the list without fields
   pub list_of_none : (s : SharedLists) (fields : List (RustParameter Ty)) → HasRoom s empty_list
-      → AreNamed s empty_list [] → ((place : ℕ) → seat_at s empty_list place ≡ None) → IsListOf fields s [] empty_list
+      → AreNamed s empty_list [] → ((place : ℕ) → list_place_at s empty_list place ≡ None) → IsListOf fields s [] empty_list
   list_of_none s fields room names seats = record {
     room = room;
     count = refl;
@@ -81,10 +81,10 @@ module _ {Ty : Type 0} where
       (needed : m.needed ≡ (if needs then l.count + 1 else l.needed))
       (names : (ns : List (List ℕ)) → AreNamed s l ns → l.count ≡ length ns
       → AreNamed t m (ns ++ parameter_name x ∷ []))
-      (seats : (place : ℕ) → seat_at t m place ≡ (if place == l.count then Some (let q : ListPlace = record {
+      (seats : (place : ℕ) → list_place_at t m place ≡ (if place == l.count then Some (let q : ListPlace = record {
         number = number;
         needed = l.needed;
-      } in q) else seat_at s l place)) where
+      } in q) else list_place_at s l place)) where
     abbrev pub all : List (RustParameter Ty)
     all = these ++ x ∷ []
 
@@ -94,7 +94,7 @@ module _ {Ty : Type 0} where
     abbrev seat : ListPlace
     seat = record { number = number; needed = l.needed }
 
-    seat_here : (k : ℕ) → k ≡ length these → IsSeat fields all k seat
+    seat_here : (k : ℕ) → k ≡ length these → IsListPlace fields all k seat
     seat_here k e = record {
       within = let f = longer in omega (arith, e, f);
       field = there ∙ sym (ap (slice_get all) e ∙ get_last these x);
@@ -111,10 +111,10 @@ module _ {Ty : Type 0} where
     }
 
     seat_more : (k : ℕ) (b : Bool) → (k == l.count) ≡ b
-        → IsSeatIfAny fields all k (if b then Some seat else seat_at s l k)
+        → IsSeatIfAny fields all k (if b then Some seat else list_place_at s l k)
     seat_more k true e = let c = h.count in seat_here k (grind (arith, nat_tests, e, c))
     seat_more k false e = let c = h.count in
-        seat_before k (λ f. absurd (grind (arith, nat_tests, e, f, c))) (seat_at s l k) (h.seats k)
+        seat_before k (λ f. absurd (grind (arith, nat_tests, e, f, c))) (list_place_at s l k) (h.seats k)
 
     one_more : l.count + 1 ≡ suc (length these)
     one_more = let c = h.count in omega (arith, c)
@@ -135,15 +135,15 @@ module _ {Ty : Type 0} where
 -- ---- a part with one more
 
 module _ {X : Type 0} (xs : List X) (before : List X) where
-  pub part_first : (start : ℕ) → before ++ part xs (span start start) ≡ before
+  pub part_first : (start : ℕ) → before ++ items_in_span xs (span start start) ≡ before
   part_first start = ap (λ ys. before ++ ys) (part_none xs start start (omega arith)) ∙ append-nil before
 
   pub part_next : (start number : ℕ) (x : X) → start ≤ number → number < length xs → x ≡ get_or xs number x
-      → before ++ part xs (span start (number + 1)) ≡ (before ++ part xs (span start number)) ++ x ∷ []
+      → before ++ items_in_span xs (span start (number + 1)) ≡ (before ++ items_in_span xs (span start number)) ++ x ∷ []
   part_next start number x order less is =
-      ap (λ n. before ++ part xs (span start n)) (let e : number + 1 ≡ suc number = omega arith in e)
+      ap (λ n. before ++ items_in_span xs (span start n)) (let e : number + 1 ≡ suc number = omega arith in e)
       ∙ ap (λ ys. before ++ ys) (part_more xs start number x order less is)
-      ∙ sym (append_assoc before (part xs (span start number)) (x ∷ []))
+      ∙ sym (append_assoc before (items_in_span xs (span start number)) (x ∷ []))
 
 -- ---- the lists of all classes
 
@@ -218,7 +218,7 @@ module _ {Ty : Type 0} (fields these : List (RustParameter Ty)) (s : SharedLists
     (h : IsListOf fields s these l) (place : ℕ) where
   -- up to where there is a field without default before a place
   pub needed_told : place ≤ length these → needed_at s l place ≡ needed_in these place
-  needed_told within = go (seat_at s l place) (h.seats place)
+  needed_told within = go (list_place_at s l place) (h.seats place)
     where
       go : (o : Option ListPlace) → IsSeatIfAny fields these place o → needed_or l.needed o ≡ needed_in these place
       go None past = h.needed ∙ ap (needed_in these)
@@ -226,11 +226,11 @@ module _ {Ty : Type 0} (fields these : List (RustParameter Ty)) (s : SharedLists
       go (Some q) is = is.needed
 
   -- no field at a place without a seat
-  pub no_seat : seat_at s l place ≡ None → slice_get these place ≡ None
+  pub no_seat : list_place_at s l place ≡ None → slice_get these place ≡ None
   no_seat none = get_past these place (subst (IsSeatIfAny fields these place) none (h.seats place))
 
   -- the field of a seat
-  pub field_of_seat : (q : ListPlace) → seat_at s l place ≡ Some q → slice_get fields q.number ≡ slice_get these place
+  pub field_of_seat : (q : ListPlace) → list_place_at s l place ≡ Some q → slice_get fields q.number ≡ slice_get these place
   field_of_seat q is = (subst (IsSeatIfAny fields these place) is (h.seats place)).field
 
 -- an element got from a slice

@@ -11,38 +11,38 @@ use Rattle.pc_tree.specs.Stopping.{name_of_member}
 use Rattle.pc_scope.specs.Reserved.{is_builtin_name}
 use Rattle.pc_scope.specs.Resolution.{is_one_of}
 use Rattle.pc_class.specs.Facts.{TypedParameter, Method, ClassFacts, field_by_name, own_fields, own_methods}
-use Rattle.pc_class.specs.Entries.{Inherited, MemberEntry, inherited_by, member_binds, member_clashes, entry_of}
-use Rattle.pc_class.specs.Entries.{number_after, entries_of, entry_default, defaulted_after, defaulted_in}
+use Rattle.pc_class.specs.Entries.{Inherited, MemberEntry, inherited_by, member_binds, member_clashes, entry_of_member}
+use Rattle.pc_class.specs.Entries.{number_after, entries_of_members, entry_default, defaulted_after, defaulted_in}
 use Rattle.pc_class.specs.Outlines.{first_named, field_name, method_name, own_field, own_method, all_own, AreOther}
 use Rattle.pc_class.specs.Outlines.{AreNew}
 
 module _ (m : Module) (base : ClassFacts) where
   -- the members bound by the rules are those that their entries bind
   pub fields_are : (before : List (List ℕ)) (n : ℕ) (ms : List Member) → own_fields m base before ms
-      ≡ all_own (own_field m) (entries_of (inherited_by base) before n ms)
+      ≡ all_own (own_field m) (entries_of_members (inherited_by base) before n ms)
   fields_are before n [] = refl
   fields_are before n (field_member f ∷ ms) = ap (λ (ps : List TypedParameter).
-      own_field m (entry_of (inherited_by base) before n (field_member f)) ++ ps)
+      own_field m (entry_of_member (inherited_by base) before n (field_member f)) ++ ps)
       (fields_are (f.name.text ∷ before) n ms)
   fields_are before n (method_member f ∷ ms) = fields_are (f.name.text ∷ before) (suc n) ms
       ∙ nothing (member_binds (inherited_by base) before (method_member f))
     where
-      nothing : (b : Bool) → all_own (own_field m) (entries_of (inherited_by base) (f.name.text ∷ before) (suc n) ms)
-          ≡ (if b then [] else []) ++ all_own (own_field m) (entries_of (inherited_by base) (f.name.text ∷ before)
+      nothing : (b : Bool) → all_own (own_field m) (entries_of_members (inherited_by base) (f.name.text ∷ before) (suc n) ms)
+          ≡ (if b then [] else []) ++ all_own (own_field m) (entries_of_members (inherited_by base) (f.name.text ∷ before)
           (suc n) ms)
       nothing true = refl
       nothing false = refl
 
   pub methods_are : (c : ℕ) (before : List (List ℕ)) (n : ℕ) (ms : List Member) → own_methods m base c n before ms
-      ≡ all_own (own_method m c) (entries_of (inherited_by base) before n ms)
+      ≡ all_own (own_method m c) (entries_of_members (inherited_by base) before n ms)
   methods_are c before n [] = refl
   methods_are c before n (method_member f ∷ ms) = ap (λ (ps : List Method). own_method m c
-      (entry_of (inherited_by base) before n (method_member f)) ++ ps) (methods_are c (f.name.text ∷ before) (suc n) ms)
+      (entry_of_member (inherited_by base) before n (method_member f)) ++ ps) (methods_are c (f.name.text ∷ before) (suc n) ms)
   methods_are c before n (field_member f ∷ ms) = methods_are c (f.name.text ∷ before) n ms
       ∙ nothing (member_binds (inherited_by base) before (field_member f))
     where
-      nothing : (b : Bool) → all_own (own_method m c) (entries_of (inherited_by base) (f.name.text ∷ before) n ms)
-          ≡ (if b then [] else []) ++ all_own (own_method m c) (entries_of (inherited_by base) (f.name.text ∷ before) n
+      nothing : (b : Bool) → all_own (own_method m c) (entries_of_members (inherited_by base) (f.name.text ∷ before) n ms)
+          ≡ (if b then [] else []) ++ all_own (own_method m c) (entries_of_members (inherited_by base) (f.name.text ∷ before) n
           ms)
       nothing true = refl
       nothing false = refl
@@ -68,7 +68,7 @@ module _ (h k : Inherited) (s : SameInherited h k) where
       (s.methods f.name.text)
   clashes_same b (method_member f) = ap (λ a. is_one_of f.name.text b || a) (s.fields f.name.text)
 
-  entry_same : (b : List (List ℕ)) (n : ℕ) (x : Member) → entry_of h b n x ≡ entry_of k b n x
+  entry_same : (b : List (List ℕ)) (n : ℕ) (x : Member) → entry_of_member h b n x ≡ entry_of_member k b n x
   entry_same b n x = ap (λ y. let e : MemberEntry = record {
     member = x;
     number = n;
@@ -78,11 +78,11 @@ module _ (h k : Inherited) (s : SameInherited h k) where
   } in e) (binds_same b x) ∙ ap (λ y. let e : MemberEntry =
       record { member = x; number = n; binds = member_binds k b x; clashes = y } in e) (clashes_same b x)
 
-  pub entries_same : (b : List (List ℕ)) (n : ℕ) (xs : List Member) → entries_of h b n xs ≡ entries_of k b n xs
+  pub entries_same : (b : List (List ℕ)) (n : ℕ) (xs : List Member) → entries_of_members h b n xs ≡ entries_of_members k b n xs
   entries_same b n [] = refl
   entries_same b n (x ∷ xs) =
-      ap (λ (e : MemberEntry). e ∷ entries_of h ((name_of_member x).text ∷ b) (number_after n x) xs) (entry_same b n x)
-      ∙ ap (λ (es : List MemberEntry). entry_of k b n x ∷ es) (entries_same ((name_of_member x).text ∷ b)
+      ap (λ (e : MemberEntry). e ∷ entries_of_members h ((name_of_member x).text ∷ b) (number_after n x) xs) (entry_same b n x)
+      ∙ ap (λ (es : List MemberEntry). entry_of_member k b n x ∷ es) (entries_same ((name_of_member x).text ∷ b)
       (number_after n x) xs)
 
 -- ---- names of their own
@@ -182,7 +182,7 @@ module _ {X : Type 0} (name : X → List ℕ) (has : List ℕ → Bool) where
       ≡ false) where
     -- the members that entries bind are new to each other
     are_new : (before : List (List ℕ)) (n : ℕ) (ms : List Member) (those : List X) → AreKnown before those
-        → AreNew name own those (entries_of h before n ms)
+        → AreNew name own those (entries_of_members h before n ms)
     are_new before n [] those w = tt
     are_new before n (x ∷ ms) those w = go (owns x n (member_binds h before x) (member_clashes h before x))
         (λ more k. are_new ((name_of_member x).text ∷ before) (number_after n x) ms more k)
@@ -191,14 +191,14 @@ module _ {X : Type 0} (name : X → List ℕ) (has : List ℕ → Bool) where
         t = (name_of_member x).text
 
         rest : List MemberEntry
-        rest = entries_of h (t ∷ before) (number_after n x) ms
+        rest = entries_of_members h (t ∷ before) (number_after n x) ms
 
         unknown : member_binds h before x ≡ true → Known before t ≡ false
         unknown e = ap (λ b. b || has t) (field_new h before n x e).0 ∙ free before x e
 
-        go : OwnOf name own (entry_of h before n x) → ((more : List X) → AreKnown (t ∷ before) more
-            → AreNew name own more rest) → AreOther name those (own (entry_of h before n x))
-            × AreNew name own (those ++ own (entry_of h before n x)) rest
+        go : OwnOf name own (entry_of_member h before n x) → ((more : List X) → AreKnown (t ∷ before) more
+            → AreNew name own more rest) → AreOther name those (own (entry_of_member h before n x))
+            × AreNew name own (those ++ own (entry_of_member h before n x)) rest
         go (nothing e) on = (
           subst (AreOther name those) (sym e) tt,
           subst (λ ys. AreNew name own ys rest) (sym (append-nil those) ∙ ap (λ ys. those ++ ys) (sym e))
@@ -216,13 +216,13 @@ module _ {X : Type 0} (name : X → List ℕ) (has : List ℕ → Bool) where
 
 -- the fields of a class are new to each other and to those of its base
 pub new_fields : (m : Module) (base : ClassFacts) (ms : List Member) → AreNew field_name (own_field m) base.fields
-    (entries_of (inherited_by base) [] 0 ms)
+    (entries_of_members (inherited_by base) [] 0 ms)
 new_fields m base ms = are_new field_name (λ n. is_some (field_by_name base.fields n)) (own_field m) (inherited_by base)
     (owns_field m) (λ before x e. (field_new (inherited_by base) before 0 x e).1) [] 0 ms base.fields (λ n h. h)
 
 -- and its methods to each other
 pub new_methods : (m : Module) (c : ℕ) (base : ClassFacts) (ms : List Member)
-    → AreNew method_name (own_method m c) [] (entries_of (inherited_by base) [] 0 ms)
+    → AreNew method_name (own_method m c) [] (entries_of_members (inherited_by base) [] 0 ms)
 new_methods m c base ms = are_new method_name (λ n. false) (own_method m c) (inherited_by base) (owns_method m c)
     (λ before x e. refl) [] 0 ms [] (λ n h. h)
 

@@ -10,14 +10,14 @@ use Rattle.pc_class.specs.declared.parts.Span.{Span}
 use Rattle.pc_class.specs.declared.parts.ClassNode.{ClassNode}
 use Rattle.pc_shared_maps.specs.NameMaps.{NameMaps}
 use Rattle.pc_class.specs.Tables.{ClassEntry, empty_entry, inherited_entry}
-use Rattle.pc_class.specs.Parts.{part, AreNodes}
+use Rattle.pc_class.specs.Parts.{items_in_span, AreNodes}
 
 abbrev pub span : ℕ → ℕ → Span
 span start end = record { start = start; end = end }
 
 -- a part with one more
 pub part_more : {X : Type 0} (xs : List X) (start end : ℕ) (x : X) → start ≤ end → end < length xs → x ≡ get_or xs end x
-    → part xs (span start (suc end)) ≡ part xs (span start end) ++ x ∷ []
+    → items_in_span xs (span start (suc end)) ≡ items_in_span xs (span start end) ++ x ∷ []
 part_more xs start end x order less is =
     let l = length-drop start xs in
     ap (λ n. take n (drop start xs)) (let e : suc end - start ≡ suc (end - start) = omega arith in e)
@@ -25,7 +25,7 @@ part_more xs start end x order less is =
     ∙ ap (λ y. take (end - start) (drop start xs) ++ y ∷ []) (get_or-drop start xs (end - start) x
     ∙ ap (λ n. get_or xs n x) (let e : start + (end - start) ≡ end = omega arith in e) ∙ sym is)
 
-pub part_none : {X : Type 0} (xs : List X) (start end : ℕ) → end ≤ start → part xs (span start end) ≡ []
+pub part_none : {X : Type 0} (xs : List X) (start end : ℕ) → end ≤ start → items_in_span xs (span start end) ≡ []
 part_none xs start end less = ap (λ n. take n (drop start xs)) (let e : end - start ≡ 0 = omega arith in e)
 
 -- the number of classes that there can be on the way up
@@ -47,14 +47,14 @@ module _ {Ty : Type 0} where
   -- a class's fields are its base's and then those that it binds itself
   pub fields_over : (d : NameMaps) (F : List (RustParameter Ty)) (M : List (RustMethod Ty)) (ns : List ClassNode)
       (es : List (ClassEntry Ty)) → AreNodes d F M ns es → (c : ℕ) (n : ClassNode) → slice_get ns c ≡ Some n
-      → (inherited_entry es (Some c)).fields ≡ (inherited_entry es n.base).fields ++ part F n.fields
+      → (inherited_entry es (Some c)).fields ≡ (inherited_entry es n.base).fields ++ items_in_span F n.fields
   fields_over d F M ns es are c n is = ap (λ (e : ClassEntry Ty). e.fields)
       (index_is es c _ empty_entry (are.each c n is).is)
 
   -- the methods of a class are those that it binds itself and then those of its base
   pub methods_over : (d : NameMaps) (F : List (RustParameter Ty)) (M : List (RustMethod Ty)) (ns : List ClassNode)
       (es : List (ClassEntry Ty)) → AreNodes d F M ns es → (c : ℕ) (n : ClassNode) → slice_get ns c ≡ Some n
-      → (own : List (RustMethod Ty)) → own ≡ part M n.methods
+      → (own : List (RustMethod Ty)) → own ≡ items_in_span M n.methods
       → (slice_index_or es c empty_entry).methods ≡ own ++ (inherited_entry es
       (slice_index_or es c empty_entry).base).methods
   methods_over d F M ns es are c n is own same =

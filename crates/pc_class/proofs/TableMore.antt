@@ -13,13 +13,13 @@ use Rattle.pc_class.specs.declared.parts.ClassNode.{ClassNode}
 use Rattle.pc_shared_maps.specs.NameMaps.{NameMaps, KeepsNamed}
 use Rattle.pc_class.specs.Outlines.{IsMapOf}
 use Rattle.pc_class.specs.Tables.{ClassEntry, empty_entry, inherited_entry}
-use Rattle.pc_class.specs.Parts.{part, IsSpan, parameter_name, stored_method_name, entry_over, entries_behind}
+use Rattle.pc_class.specs.Parts.{items_in_span, IsSpan, parameter_name, stored_method_name, entry_over, entries_behind}
 use Rattle.pc_class.specs.Parts.{IsClassNode, AreNodes}
 use Rattle.pc_class.proofs.Holding.{held_kept}
 
 -- ---- parts of lists
 
-pub part_front : {X : Type 0} (xs ys : List X) (s : Span) → IsSpan (length xs) s → part (xs ++ ys) s ≡ part xs s
+pub part_front : {X : Type 0} (xs ys : List X) (s : Span) → IsSpan (length xs) s → items_in_span (xs ++ ys) s ≡ items_in_span xs s
 part_front xs ys s h =
     let o = h.order in
     let w = h.within in
@@ -27,7 +27,7 @@ part_front xs ys s h =
     ap (take (s.end - s.start)) (drop-append-le s.start xs ys (omega arith))
     ∙ take-append-le (s.end - s.start) (drop s.start xs) ys (omega arith)
 
-pub part_back : {X : Type 0} (xs ys : List X) → part (xs ++ ys)
+pub part_back : {X : Type 0} (xs ys : List X) → items_in_span (xs ++ ys)
     (let s : Span = record { start = length xs; end = length (xs ++ ys) } in s) ≡ ys
 part_back xs ys =
     let l = length-append xs ys in
@@ -83,12 +83,12 @@ module _ {Ty : Type 0} where
           base = n.base;
           fields = (inherited_entry es n.base).fields ++ ps;
           methods =
-              part (M ++ ms) n.methods ++ (inherited_entry es n.base).methods;
+              items_in_span (M ++ ms) n.methods ++ (inherited_entry es n.base).methods;
         } in e) (part_front F fs n.fields hf)
         ∙ ap (λ (xs : List (RustMethod Ty)). let e : ClassEntry Ty =
         record {
           base = n.base;
-          fields = (inherited_entry es n.base).fields ++ part F n.fields;
+          fields = (inherited_entry es n.base).fields ++ items_in_span F n.fields;
           methods =
               xs ++ (inherited_entry es n.base).methods;
         } in e) (part_front M ms n.methods hm)
@@ -130,9 +130,9 @@ module _ {Ty : Type 0} where
     next_over more =
         ap (λ (b : ClassEntry Ty). let e : ClassEntry Ty = record {
           base = n.base;
-          fields = b.fields ++ part (F ++ fs)
+          fields = b.fields ++ items_in_span (F ++ fs)
               n.fields;
-          methods = part (M ++ ms) n.methods ++ b.methods;
+          methods = items_in_span (M ++ ms) n.methods ++ b.methods;
         } in e)
         (inherited_before es more n.base base_before)
         ∙ ap (λ (ps : List (RustParameter Ty)). let e : ClassEntry Ty =
@@ -140,8 +140,8 @@ module _ {Ty : Type 0} where
           base = n.base;
           fields = (inherited_entry es n.base).fields ++ ps;
           methods =
-              part (M ++ ms) n.methods ++ (inherited_entry es n.base).methods;
-        } in e) (ap (part (F ++ fs)) hf
+              items_in_span (M ++ ms) n.methods ++ (inherited_entry es n.base).methods;
+        } in e) (ap (items_in_span (F ++ fs)) hf
         ∙ part_back F fs)
         ∙ ap (λ (xs : List (RustMethod Ty)). let e : ClassEntry Ty =
         record {
@@ -149,7 +149,7 @@ module _ {Ty : Type 0} where
           fields = (inherited_entry es n.base).fields ++ fs;
           methods =
               xs ++ (inherited_entry es n.base).methods;
-        } in e) (ap (part (M ++ ms)) hm ∙ part_back M ms)
+        } in e) (ap (items_in_span (M ++ ms)) hm ∙ part_back M ms)
 
     pub entries_next : es ≡ entries_behind F M [] ns → entries_behind (F ++ fs) (M ++ ms) [] (ns ++ n ∷ []) ≡ es
         ++ entry_next ∷ []
@@ -171,8 +171,8 @@ module _ {Ty : Type 0} where
         ∙ ap (λ (b : ClassEntry Ty). let e : ClassEntry Ty = record {
           base = x.base;
           fields =
-              b.fields ++ part F x.fields;
-          methods = part M x.methods ++ b.methods;
+              b.fields ++ items_in_span F x.fields;
+          methods = items_in_span M x.methods ++ b.methods;
         } in e)
         (inherited_before es (entry_next ∷ []) x.base (λ b e. let l = h.before b e in omega arith)) in
         record {

@@ -15,7 +15,7 @@ use Rattle.pc_class.specs.declared.parts.ClassArena.{ClassArena}
 use Rattle.pc_class.specs.Outlines.{first_named}
 use Rattle.pc_class.specs.Tables.{ClassEntry, empty_entry, inherited_entry, parameter_with, method_with, class_with}
 use Rattle.pc_class.specs.Tables.{classes_with, parameter_lent, method_lent, IsFieldIfAny, IsMethodIfAny}
-use Rattle.pc_class.specs.Parts.{parameter_name, stored_method_name, entries_in, IsClassNode, IsClassTable}
+use Rattle.pc_class.specs.Parts.{parameter_name, stored_method_name, classes_of_table, IsClassNode, IsClassTable}
 
 pub find_map : {X Y : Type 0} (f : X → Y) (p : Y → Bool) (xs : List X)
     → find p (map f xs) ≡ option_map f (find (λ x. p (f x)) xs)
@@ -55,7 +55,7 @@ lent_means meaning (Some x) = refl
 -- the node of a class of a table
 pub node_there : {Ty : Type 0} (p : ClassArena Ty) → IsClassTable p → (c : ℕ) (n : ClassNode)
     → n ≡ get_or p.classes.items c n → c < length p.classes.items
-    → IsClassNode p.named p.fields.items p.methods.items (entries_in p) c n
+    → IsClassNode p.named p.fields.items p.methods.items (classes_of_table p) c n
 node_there p table c n is less = table.each c n (slice_get_read p.classes.items (length p.classes.items) c n refl less
     is)
 

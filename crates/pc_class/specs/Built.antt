@@ -15,7 +15,7 @@ use Rattle.pc_class.specs.Facts.{ClassFacts, base_facts, class_facts_behind}
 use Rattle.pc_class.specs.Entries.{missing_bases}
 use Rattle.pc_class.specs.Annotated.{class_annotated}
 use Rattle.pc_class.specs.Outlines.{IsMapOf, found_over, classes_found}
-use Rattle.pc_class.specs.Parts.{entries_in, HasParts, IsClassTable}
+use Rattle.pc_class.specs.Parts.{classes_of_table, HasParts, IsClassTable}
 use Rattle.pc_class.specs.Tables.{classes_with}
 
 -- the items added to a list mean these, and each satisfies `has`; a map has them by name, between those in front and
@@ -41,8 +41,8 @@ pub record IsOneMore {Ty : Type 0} (tree : Ty → Tree) (has : Ty → Type 0) (m
     (old new : ClassArena Ty) : Type 0 where
   pub table : IsClassTable new
   pub given : HasParts has new
-  pub classes : classes_with tree (entries_in new) ≡ classes_with tree (entries_in old)
-      ++ class_facts_behind m (classes_with tree (entries_in old)) (length old.classes.items) class ∷ []
+  pub classes : classes_with tree (classes_of_table new) ≡ classes_with tree (classes_of_table old)
+      ++ class_facts_behind m (classes_with tree (classes_of_table old)) (length old.classes.items) class ∷ []
 
 -- the findings of a rule on classes, each class over its base, given the classes before them
 abbrev pub each_behind : (over : ClassFacts → ClassDef → List Finding) → Module → List ClassFacts → ℕ → List ClassDef

@@ -62,8 +62,8 @@ member_clashes h before (field_member f) = is_one_of f.name.text before
 member_clashes h before (method_member f) = is_one_of f.name.text before || h.has_field f.name.text
 
 -- a member as an entry
-abbrev pub entry_of : Inherited → List (List ℕ) → ℕ → Member → MemberEntry
-entry_of h before number x = record {
+abbrev pub entry_of_member : Inherited → List (List ℕ) → ℕ → Member → MemberEntry
+entry_of_member h before number x = record {
   member = x;
   number = number;
   binds = member_binds h before x;
@@ -76,14 +76,14 @@ number_after n (field_member f) = n
 number_after n (method_member f) = suc n
 
 -- the entries of members, given the names and the number of methods before them
-abbrev pub entries_of : Inherited → List (List ℕ) → ℕ → List Member → List MemberEntry
-entries_of h before number [] = []
-entries_of h before number (x ∷ rest) =
-    entry_of h before number x ∷ entries_of h ((name_of_member x).text ∷ before) (number_after number x) rest
+abbrev pub entries_of_members : Inherited → List (List ℕ) → ℕ → List Member → List MemberEntry
+entries_of_members h before number [] = []
+entries_of_members h before number (x ∷ rest) =
+    entry_of_member h before number x ∷ entries_of_members h ((name_of_member x).text ∷ before) (number_after number x) rest
 
 -- the entries of a class whose ancestors have these names
 abbrev pub class_entries : Inherited → ClassDef → List MemberEntry
-class_entries h class = entries_of h [] 0 class.members
+class_entries h class = entries_of_members h [] 0 class.members
 
 -- an entry of the program
 abbrev pub entry_seen : RustEntry → MemberEntry

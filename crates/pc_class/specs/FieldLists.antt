@@ -4,7 +4,7 @@ use Rattle.std.specs.Prelude.{◌≡◌, ◌<◌, ◌≤◌, ℕ, List, length, 
 use Rattle.pc_shared_maps.specs.declared.lists.ListPlace.{ListPlace}
 use Rattle.pc_shared_maps.specs.declared.lists.SharedList.{SharedList}
 use Rattle.pc_shared_maps.specs.declared.lists.SharedLists.{SharedLists}
-use Rattle.pc_shared_maps.specs.SharedLists.{empty_list, seat_at, HasRoom, AreNamed}
+use Rattle.pc_shared_maps.specs.SharedLists.{empty_list, list_place_at, HasRoom, AreNamed}
 use Rattle.pc_class.specs.declared.table.Parameter.{Parameter as RustParameter}
 use Rattle.pc_class.specs.declared.field_lists.ClassLists.{ClassLists}
 use Rattle.pc_class.specs.Listed.{names_listed, needed_in}
@@ -25,7 +25,7 @@ fields_in es class = (inherited_entry es (Some class)).fields
 
 module _ {Ty : Type 0} (fields : List (RustParameter Ty)) where
   -- a seat is that of a place of these fields
-  pub record IsSeat (these : List (RustParameter Ty)) (place : ℕ) (seat : ListPlace) : Type 0 where
+  pub record IsListPlace (these : List (RustParameter Ty)) (place : ℕ) (seat : ListPlace) : Type 0 where
     pub within : place < length these
     pub field : slice_get fields seat.number ≡ slice_get these place
     pub needed : seat.needed ≡ needed_in these place
@@ -33,7 +33,7 @@ module _ {Ty : Type 0} (fields : List (RustParameter Ty)) where
   -- a seat, if there is one, is that of a place of these fields; else the place is past their end
   abbrev pub IsSeatIfAny : List (RustParameter Ty) → ℕ → Option ListPlace → Type 0
   IsSeatIfAny these place None = length these ≤ place
-  IsSeatIfAny these place (Some seat) = IsSeat these place seat
+  IsSeatIfAny these place (Some seat) = IsListPlace these place seat
 
   -- a shared list is the list of these fields
   pub record IsListOf (s : SharedLists) (these : List (RustParameter Ty)) (l : SharedList) : Type 0 where
@@ -41,7 +41,7 @@ module _ {Ty : Type 0} (fields : List (RustParameter Ty)) where
     pub count : l.count ≡ length these
     pub needed : l.needed ≡ needed_in these (length these)
     pub names : AreNamed s l (names_listed these)
-    pub seats : (place : ℕ) → IsSeatIfAny these place (seat_at s l place)
+    pub seats : (place : ℕ) → IsSeatIfAny these place (list_place_at s l place)
 
   -- there is a list for each class, and one for no class
   abbrev pub AreClassLists : ClassLists → List (ClassEntry Ty) → Type 0

@@ -15,8 +15,8 @@ use Rattle.pc_class.specs.Outlines.{IsMapOf}
 use Rattle.pc_class.specs.Tables.{ClassEntry, inherited_entry, HasParameter, HasMethod}
 
 -- the items of a list in a range: from its start to before its end
-abbrev pub part : {X : Type 0} → List X → Span → List X
-part xs s = take (s.end - s.start) (drop s.start xs)
+abbrev pub items_in_span : {X : Type 0} → List X → Span → List X
+items_in_span xs s = take (s.end - s.start) (drop s.start xs)
 
 -- a range is within a list of this length
 pub record IsSpan (n : ℕ) (s : Span) : Type 0 where
@@ -52,8 +52,8 @@ module _ {Ty : Type 0} where
     abbrev pub entry_over : List (ClassEntry Ty) → ClassNode → ClassEntry Ty
     entry_over earlier n = record {
       base = n.base;
-      fields = (inherited_entry earlier n.base).fields ++ part fields n.fields;
-      methods = part methods n.methods ++ (inherited_entry earlier n.base).methods;
+      fields = (inherited_entry earlier n.base).fields ++ items_in_span fields n.fields;
+      methods = items_in_span methods n.methods ++ (inherited_entry earlier n.base).methods;
     }
 
     -- the earlier classes and these, each over its base
@@ -62,8 +62,8 @@ module _ {Ty : Type 0} where
     entries_behind earlier (n ∷ ns) = entries_behind (earlier ++ entry_over earlier n ∷ []) ns
 
   -- the classes of a table
-  unfoldable pub entries_in : ClassArena Ty → List (ClassEntry Ty)
-  entries_in p = entries_behind p.fields.items p.methods.items [] p.classes.items
+  unfoldable pub classes_of_table : ClassArena Ty → List (ClassEntry Ty)
+  classes_of_table p = entries_behind p.fields.items p.methods.items [] p.classes.items
 
   -- the base of each class, if it has one
   abbrev pub bases_in : List (ClassEntry Ty) → List (Option ℕ)
@@ -91,7 +91,7 @@ module _ {Ty : Type 0} where
 
   -- the contents of a table form a class table: each class agrees with its entry in the list
   abbrev pub IsClassTable : ClassArena Ty → Type 0
-  IsClassTable p = AreNodes p.named p.fields.items p.methods.items p.classes.items (entries_in p)
+  IsClassTable p = AreNodes p.named p.fields.items p.methods.items p.classes.items (classes_of_table p)
 
   -- the store gave the types of all these fields and methods
   pub record HasParts (has : Ty → Type 0) (p : ClassArena Ty) : Type 0 where

@@ -15,7 +15,7 @@ ghost use Rattle.pc_class.specs.Outlines.{IsMapOf, first_named, field_name, meth
 ghost use Rattle.pc_class.specs.Outlines.{own_field, own_method, all_own, AreOther, AreNew};
 ghost use Rattle.pc_class.specs.Outlines.{found_over};
 ghost use Rattle.pc_class.specs.Tables.{HasParameter, HasMethod, parameter_with, method_with, classes_with};
-ghost use Rattle.pc_class.specs.Parts.{parameter_name, stored_method_name, inherited_node, entries_in, IsClassTable};
+ghost use Rattle.pc_class.specs.Parts.{parameter_name, stored_method_name, inherited_node, classes_of_table, IsClassTable};
 ghost use Rattle.pc_class.specs.Parts.{HasParts};
 ghost use Rattle.pc_annotations.specs.ModuleOutlines.{IsModuleOutline, module_in};
 ghost use Rattle.pc_class.specs.Built.{Added, IsClassAt, IsOneMore, members_of_entries};
@@ -294,11 +294,11 @@ pub(crate) fn add_class<S: TypeStore>(
         parts.new) }
     ensures found { OnOk result
         (found.new.items ≡ found.old.items
-        ++ found_over (base_facts (classes_with S.tree (entries_in parts.old))
+        ++ found_over (base_facts (classes_with S.tree (classes_of_table parts.old))
         (base_named (module_in outline.now) (length parts.old.classes.items) (class_of definition.now).base))
         (class_of definition.now)) }
     ensures annotated { OnOk result (reader.new.found.now.items ≡ reader.old.found.now.items
-        ++ class_annotated (module_in outline.now) (base_facts (classes_with S.tree (entries_in parts.old))
+        ++ class_annotated (module_in outline.now) (base_facts (classes_with S.tree (classes_of_table parts.old))
         (base_named (module_in outline.now) (length parts.old.classes.items) (class_of definition.now).base))
         (class_of definition.now)) }
 {

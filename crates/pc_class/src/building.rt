@@ -9,7 +9,7 @@ ghost use Rattle.pc_class.specs.Annotated.{member_annotations};
 ghost use Rattle.pc_class.specs.Facts.{classes_behind, classes_of};
 ghost use Rattle.pc_class.specs.Outlines.{IsClassNumbered};
 ghost use Rattle.pc_class.specs.Tables.{classes_with, HasEntries};
-ghost use Rattle.pc_class.specs.Parts.{entries_in, IsClassTable, HasParts};
+ghost use Rattle.pc_class.specs.Parts.{classes_of_table, IsClassTable, HasParts};
 ghost use Rattle.pc_annotations.specs.ModuleOutlines.{IsModuleOutline, module_in};
 ghost use Rattle.pc_class.specs.Built.{found_behind, annotated_behind, class_findings};
 ghost use Rattle.pc_class.specs.Internal.Readers.{IsLentSame};
@@ -65,15 +65,15 @@ fn add_item<S: TypeStore>(
         (length parts.new.classes.items
         ≡ length parts.old.classes.items + length (classes_in (item_of item.now ∷ []))) }
     ensures classes { OnOk result
-        (classes_with S.tree (entries_in parts.new)
-        ≡ classes_behind (module_in outline.now) (classes_with S.tree (entries_in parts.old))
+        (classes_with S.tree (classes_of_table parts.new)
+        ≡ classes_behind (module_in outline.now) (classes_with S.tree (classes_of_table parts.old))
         (length parts.old.classes.items) (classes_in (item_of item.now ∷ []))) }
     ensures found { OnOk result
         (found.new.items ≡ found.old.items
-        ++ found_behind (module_in outline.now) (classes_with S.tree (entries_in parts.old))
+        ++ found_behind (module_in outline.now) (classes_with S.tree (classes_of_table parts.old))
         (length parts.old.classes.items) (classes_in (item_of item.now ∷ []))) }
     ensures annotated { OnOk result (reader.new.found.now.items ≡ reader.old.found.now.items
-        ++ annotated_behind (module_in outline.now) (classes_with S.tree (entries_in parts.old))
+        ++ annotated_behind (module_in outline.now) (classes_with S.tree (classes_of_table parts.old))
         (length parts.old.classes.items) (classes_in (item_of item.now ∷ []))) }
 {
     match &item.kind {
@@ -98,7 +98,7 @@ fn all_classes<S: TypeStore>(
     ensures same { IsLentSame reader.old reader.new }
     ensures table { IfOk result IsClassTable }
     ensures given { IfOk result (HasParts (S.has reader.new.store.now)) }
-    ensures classes { IfOk result (λ p. classes_with S.tree (entries_in p) ≡ classes_of (module_in outline.now)) }
+    ensures classes { IfOk result (λ p. classes_with S.tree (classes_of_table p) ≡ classes_of (module_in outline.now)) }
     ensures found { OnOk result
         (found.new.items ≡ found.old.items
         ++ found_behind (module_in outline.now) [] 0 (classes_in (module_in outline.now).items)) }
@@ -126,7 +126,7 @@ fn read_classes<S: TypeStore>(
     ensures store { KeepsTypes S.has store.old store.new }
     ensures table { IfOk result IsClassTable }
     ensures given { IfOk result (HasParts (S.has store.new)) }
-    ensures classes { IfOk result (λ p. classes_with S.tree (entries_in p) ≡ classes_of (module_in outline.now)) }
+    ensures classes { IfOk result (λ p. classes_with S.tree (classes_of_table p) ≡ classes_of (module_in outline.now)) }
     ensures found { OnOk result
         (found.new.items ≡ found.old.items
         ++ found_behind (module_in outline.now) [] 0 (classes_in (module_in outline.now).items)) }

@@ -7,7 +7,7 @@ ghost use Rattle.pc_tree.specs.Tree.{member_of};
 ghost use Rattle.pc_tree.specs.Code.{at_code};
 ghost use Rattle.pc_scope.specs.Resolution.{is_one_of};
 ghost use Rattle.pc_scope.specs.Internal.WalkViews.{texts_in};
-ghost use Rattle.pc_class.specs.Entries.{HasMaps, inherited_in, member_binds, member_clashes, entry_of, entries_of};
+ghost use Rattle.pc_class.specs.Entries.{HasMaps, inherited_in, member_binds, member_clashes, entry_of_member, entries_of_members};
 ghost use Rattle.pc_class.specs.Entries.{entry_seen, entry_default, clash_places, late_places, defaulted_in};
 
 use indexmap::IndexSet;
@@ -89,7 +89,7 @@ fn judge<'m>(
 ) -> ClassMember<'m>
     requires { HasMaps named.now base }
     ensures { entry_seen result
-        ≡ entry_of (inherited_in named.now base) (texts_in before.now) number (member_of member.now) }
+        ≡ entry_of_member (inherited_in named.now base) (texts_in before.now) number (member_of member.now) }
 {
     ClassMember {
         member,
@@ -109,7 +109,7 @@ pub fn entries<'m>(
 ) -> Result<Vec<ClassMember<'m>>, OutOfMemory>
     requires { HasMaps named.now base }
     ensures { IfOk result (λ es. map entry_seen es.items
-        ≡ entries_of (inherited_in named.now base) [] 0 (map member_of members.now)) }
+        ≡ entries_of_members (inherited_in named.now base) [] 0 (map member_of members.now)) }
 {
     let mut all = Vec::new(alloc);
     let mut before = IndexSet::with_hasher(alloc, keys);

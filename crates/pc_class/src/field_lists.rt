@@ -4,7 +4,7 @@ ghost use Rattle.std.specs.Prelude.{◌≡◌, ◌++◌, List, length, Some, IfO
 ghost use Rattle.pc_shared_maps.specs.SharedLists.{HasRoom, KeepsLists};
 ghost use Rattle.pc_class.specs.declared.table.Parameter.{Parameter as ParameterOf};
 ghost use Rattle.pc_class.specs.FieldLists.{IsListOf, AreClassLists, list_at, list_in};
-ghost use Rattle.pc_class.specs.Parts.{part, IsSpan, entries_in, IsClassTable};
+ghost use Rattle.pc_class.specs.Parts.{items_in_span, IsSpan, classes_of_table, IsClassTable};
 
 use crate::parts::{ClassArena, Span};
 use crate::table::Parameter;
@@ -33,7 +33,7 @@ fn add_fields<Ty: Drop>(
     ensures room { IfOk result (HasRoom lists.new) }
     ensures kept { OnOk result (KeepsLists lists.old lists.new) }
     ensures list { (before : List (ParameterOf Ty)) → IsListOf fields.now lists.old before list
-        → IfOk result (IsListOf fields.now lists.new (before ++ part fields.now span)) }
+        → IfOk result (IsListOf fields.now lists.new (before ++ items_in_span fields.now span)) }
 {
     let mut longer = list;
     for number in span.start..span.end {
@@ -62,7 +62,7 @@ impl ClassLists {
         parts: &ClassArena<Ty>,
     ) -> Result<ClassLists, OutOfMemory>
         requires { IsClassTable parts.now }
-        ensures { IfOk result (λ s. AreClassLists parts.now.fields.items s (entries_in parts.now)) }
+        ensures { IfOk result (λ s. AreClassLists parts.now.fields.items s (classes_of_table parts.now)) }
     {
         let mut lists = SharedLists::new(alloc, keys)?;
         let mut classes = Vec::new(alloc);

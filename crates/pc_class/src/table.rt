@@ -11,7 +11,7 @@ ghost use Rattle.pc_class.specs.Facts.{field_by_name, method_by_name, class_fact
 ghost use Rattle.pc_class.specs.FieldLists.{AreClassLists, fields_in};
 ghost use Rattle.pc_class.specs.Listed.{names_listed, needed_in};
 ghost use Rattle.pc_class.specs.Outlines.{IsMapOf, first_named};
-ghost use Rattle.pc_class.specs.Parts.{lent_parameter, bases_in, entries_in, IsClassTable};
+ghost use Rattle.pc_class.specs.Parts.{lent_parameter, bases_in, classes_of_table, IsClassTable};
 ghost use Rattle.pc_class.specs.Tables.{ClassEntry, empty_entry, inherited_entry, classes_with, parameter_lent};
 ghost use Rattle.pc_class.specs.Tables.{method_lent, IsFieldIfAny, IsMethodIfAny};
 
@@ -78,19 +78,19 @@ pub struct ClassTable<Ty: Drop> {
 impl<Ty: Drop> Model for ClassTable<Ty> {
     ghost Value = { List (ClassEntry Ty) };
 
-    ghost view = { λ t. entries_in t.parts };
+    ghost view = { λ t. classes_of_table t.parts };
 
-    ghost invariant = { λ t. IsClassTable t.parts × ((t.parents ≡ bases_in (entries_in t.parts))
-        × AreClassLists t.parts.fields.items t.lists (entries_in t.parts)) };
+    ghost invariant = { λ t. IsClassTable t.parts × ((t.parents ≡ bases_in (classes_of_table t.parts))
+        × AreClassLists t.parts.fields.items t.lists (classes_of_table t.parts)) };
 }
 
 impl<Ty: Drop> ClassTable<Ty> {
     /// Returns the table with these contents, parents and lists of fields.
     pub(crate) fn of(parts: ClassArena<Ty>, parents: Parents, lists: ClassLists) -> ClassTable<Ty>
         requires table { IsClassTable parts }
-        requires parents { parents ≡ bases_in (entries_in parts) }
-        requires lists { AreClassLists parts.fields.items lists (entries_in parts) }
-        ensures { result ≡ entries_in parts }
+        requires parents { parents ≡ bases_in (classes_of_table parts) }
+        requires lists { AreClassLists parts.fields.items lists (classes_of_table parts) }
+        ensures { result ≡ classes_of_table parts }
     {
         ClassTable {
             parts,

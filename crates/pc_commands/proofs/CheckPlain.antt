@@ -10,7 +10,7 @@ use Rattle.std.proofs.lemmas.Slice.Eq.{bytes_eq-Decides}
 use Rattle.clap.specs.Words.{Kinds, Text}
 use Rattle.clap.proofs.OnLiterals.{clap_on_literals}
 use Rattle.pc_commands.specs.CheckWords.{Reading, are_plain, asked, asked_by, asked_of, faults, format_word, is_choice}
-use Rattle.pc_commands.specs.CheckWords.{is_file, is_flag, is_types_flag, plainly_asked, readings, value_of}
+use Rattle.pc_commands.specs.CheckWords.{is_file, is_flag, is_types_flag, plainly_asked, readings, argument_value}
 use Rattle.pc_commands.specs.Faults.{begins_with_dash, without_faults}
 use Rattle.pc_commands.proofs.SaidOfFaults.{long_none, not_dashes, short_none}
 
@@ -21,10 +21,10 @@ Found = Kinds × Text × Text × Option Text × Text
 abbrev found : List Text → Found
 found words = (
   faults words,
-  value_of (codes "json") words,
-  value_of (codes "types") words,
+  argument_value (codes "json") words,
+  argument_value (codes "types") words,
   format_word words,
-  value_of (codes "file") words,
+  argument_value (codes "file") words,
 )
 
 -- what is asked, by what `clap` makes of the words

@@ -14,7 +14,7 @@ use Rattle.pc_report.specs.declared.format.Format.{Format}
 use Rattle.pc_commands.specs.declared.faults.OptionFault.{OptionFault}
 use Rattle.pc_commands.specs.Faults.{OnFault, is_mistake, is_request, without_faults}
 use Rattle.pc_commands.specs.CheckWords.{Asked, asked, asked_of, asks_for_help, command_line, faults, format_asked}
-use Rattle.pc_commands.specs.CheckWords.{format_word, in_format, is_given, is_mistaken, value_of}
+use Rattle.pc_commands.specs.CheckWords.{format_word, in_format, is_given, is_mistaken, argument_value}
 use Rattle.pc_commands.proofs.SaidOfFaults.{error_says, value_at_fault}
 
 pub simple : is_simple command_line ≡ true
@@ -29,7 +29,7 @@ simple_and_free = refl
 pub value_read : (m : ArgMatches) (id : Text) (words : List Text) (got : Option (Bor Text)) (other text : Bor Text)
     → text ≡ unwrap_or got other
     → option_map (λ s. s.now) got ≡ first_value (found_of m) id → rows_of (found_of m) ≡ matches_of command_line words
-    → other.now ≡ [] → text.now ≡ value_of id words
+    → other.now ≡ [] → text.now ≡ argument_value id words
 value_read m id words got other text so is rows empty =
     ap (λ (t : Bor Text). t.now) so ∙ or_empty got ∙ ap (λ o. unwrap_or o []) (is ∙ first_value-rows (found_of m) id
     ∙ ap (first_of id) rows)
@@ -47,19 +47,19 @@ word_read m words got is rows = is ∙ first_value-rows (found_of m) (codes "for
 
 -- where `clap` finds no fault, the words ask for a check of what was read
 asked_is : (words : List Text) (flag listing : Text) (number : Option Text) (file : Text) → faults words ≡ []
-    → flag ≡ value_of (codes "json") words → listing ≡ value_of (codes "types") words → number ≡ format_word words
-    → file ≡ value_of (codes "file") words
+    → flag ≡ argument_value (codes "json") words → listing ≡ argument_value (codes "types") words → number ≡ format_word words
+    → file ≡ argument_value (codes "file") words
     → asked words ≡ asked_of (bytes_eq flag (codes "true")) (bytes_eq listing (codes "true")) number file
 asked_is words flag listing number file none flag_is kinds_is number_is file_is =
     rw (flag_is, kinds_is, number_is, file_is) (
     ap (λ kinds. without_faults kinds (asked_of (is_given (codes "json") words) (is_given (codes "types") words)
-    (format_word words) (value_of (codes "file") words))) none
+    (format_word words) (argument_value (codes "file") words))) none
     )
 
 -- there is a format, and the file was copied
 pub gives : (words : List Text) (flag listing : Text) (number : Option Text) (file copy : Text) (json types : Bool)
-    (format : Format) → faults words ≡ [] → flag ≡ value_of (codes "json") words
-    → listing ≡ value_of (codes "types") words → number ≡ format_word words → file ≡ value_of (codes "file") words
+    (format : Format) → faults words ≡ [] → flag ≡ argument_value (codes "json") words
+    → listing ≡ argument_value (codes "types") words → number ≡ format_word words → file ≡ argument_value (codes "file") words
     → json ≡ bytes_eq flag (codes "true") → types ≡ bytes_eq listing (codes "true")
     → format_asked types number ≡ Some format → copy ≡ file
     → asked words ≡ Some (record { json = json; types = types; format = format; file = copy })
@@ -72,17 +72,17 @@ gives words flag listing number file copy json types format none flag_is kinds_i
 
 -- there is no format
 pub misses : (words : List Text) (listing : Text) (number : Option Text) (types : Bool) → faults words ≡ []
-    → listing ≡ value_of (codes "types") words → number ≡ format_word words
+    → listing ≡ argument_value (codes "types") words → number ≡ format_word words
     → types ≡ bytes_eq listing (codes "true") → format_asked types number ≡ None → asked words ≡ None
 misses words listing number types none kinds_is number_is types_is format_is =
     asked_is words _ listing number _ none refl kinds_is number_is refl
-    ∙ sym (ap (λ (t : Bool). asked_of (is_given (codes "json") words) t number (value_of (codes "file") words)) types_is)
-    ∙ ap (λ o. in_format (is_given (codes "json") words) types o (value_of (codes "file") words)) format_is
+    ∙ sym (ap (λ (t : Bool). asked_of (is_given (codes "json") words) t number (argument_value (codes "file") words)) types_is)
+    ∙ ap (λ o. in_format (is_given (codes "json") words) types o (argument_value (codes "file") words)) format_is
 
 -- what `clap` reads of the words
 abbrev read : List Text → Option Asked
 read words = asked_of (is_given (codes "json") words) (is_given (codes "types") words) (format_word words)
-    (value_of (codes "file") words)
+    (argument_value (codes "file") words)
 
 -- what is said of an error of `clap` holds of the words
 pub says : (words : List Text) (k : ErrorKind) (r : OptionFault) → (k ≡ kind.OutOfMemory) ⊎ IsAmong k (faults words)

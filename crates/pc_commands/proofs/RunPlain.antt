@@ -8,7 +8,7 @@ use Rattle.std.proofs.lemmas.Bool.{not-true}
 use Rattle.std.proofs.lemmas.Slice.Eq.{bytes_eq-Decides}
 use Rattle.clap.specs.Words.{Text}
 use Rattle.clap.proofs.OnLiterals.{clap_on_literals}
-use Rattle.pc_commands.specs.RunWords.{are_plain, asked, faults, fuel_in, plainly_asked, value_of, with_file}
+use Rattle.pc_commands.specs.RunWords.{are_plain, asked, faults, fuel_in, plainly_asked, argument_value, with_file}
 use Rattle.pc_commands.specs.Faults.{begins_with_dash}
 use Rattle.pc_commands.proofs.SaidOfFaults.{long_none, not_dashes, short_none}
 
@@ -25,7 +25,7 @@ plain_faults n f bn bf = rw (
 ) refl
 
 pub plain_number : (n f : Text) → begins_with_dash n ≡ false → begins_with_dash f ≡ false
-    → value_of (codes "fuel") (codes "--fuel" ∷ n ∷ f ∷ []) ≡ Some n
+    → argument_value (codes "fuel") (codes "--fuel" ∷ n ∷ f ∷ []) ≡ Some n
 unfolding clap_on_literals
 plain_number n f bn bf = rw (
   not_dashes n bn,
@@ -37,7 +37,7 @@ plain_number n f bn bf = rw (
 ) refl
 
 pub plain_file : (n f : Text) → begins_with_dash n ≡ false → begins_with_dash f ≡ false
-    → value_of (codes "file") (codes "--fuel" ∷ n ∷ f ∷ []) ≡ Some f
+    → argument_value (codes "file") (codes "--fuel" ∷ n ∷ f ∷ []) ≡ Some f
 unfolding clap_on_literals
 plain_file n f bn bf = rw (
   not_dashes n bn,

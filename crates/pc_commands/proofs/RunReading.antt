@@ -12,7 +12,7 @@ use Rattle.clap.proofs.WalkLemmas.{first_value-rows}
 use Rattle.pc_commands.specs.declared.faults.OptionFault.{OptionFault}
 use Rattle.pc_commands.specs.Faults.{OnFault, is_mistake, is_request, without_faults}
 use Rattle.pc_commands.specs.RunWords.{Asked, asked, asks_for_help, command_line, faults, fuel_in, is_mistaken}
-use Rattle.pc_commands.specs.RunWords.{value_of, with_file}
+use Rattle.pc_commands.specs.RunWords.{argument_value, with_file}
 use Rattle.pc_commands.proofs.SaidOfFaults.{error_says, value_at_fault}
 
 pub simple : is_simple command_line ≡ true
@@ -25,15 +25,15 @@ simple_and_free = refl
 
 -- a getter reads the value of an argument
 value_read : (m : ArgMatches) (id : Text) (words : List Text) (got : Option Text) → got ≡ first_value (found_of m) id
-    → rows_of (found_of m) ≡ matches_of command_line words → got ≡ value_of id words
+    → rows_of (found_of m) ≡ matches_of command_line words → got ≡ argument_value id words
 value_read m id words got is rows = is ∙ first_value-rows (found_of m) id ∙ ap (first_of id) rows
 
 -- where `clap` finds no fault, the words ask for a run of what was read
 pub asked_is : (words : List Text) → faults words ≡ [] → asked words
-    ≡ with_file (option_and_then fuel_in (value_of (codes "fuel") words)) (value_of (codes "file") words)
+    ≡ with_file (option_and_then fuel_in (argument_value (codes "fuel") words)) (argument_value (codes "file") words)
 asked_is words none =
-    ap (λ kinds. without_faults kinds (with_file (option_and_then fuel_in (value_of (codes "fuel") words))
-    (value_of (codes "file") words))) none
+    ap (λ kinds. without_faults kinds (with_file (option_and_then fuel_in (argument_value (codes "fuel") words))
+    (argument_value (codes "file") words))) none
 
 -- what is asked, by what the getters gave
 pub reads : (words : List Text) (m : ArgMatches) (fuel : Option ℕ) (file : Option Text) → faults words ≡ []
@@ -61,7 +61,7 @@ misses (Some n) (Some t) (inr is) = absurd (true≢false (ap is_some is))
 
 -- what `clap` reads of the words
 abbrev read : List Text → Option Asked
-read words = with_file (option_and_then fuel_in (value_of (codes "fuel") words)) (value_of (codes "file") words)
+read words = with_file (option_and_then fuel_in (argument_value (codes "fuel") words)) (argument_value (codes "file") words)
 
 -- what is said of an error of `clap` holds of the words
 pub says : (words : List Text) (k : ErrorKind) (r : OptionFault) → (k ≡ kind.OutOfMemory) ⊎ IsAmong k (faults words)

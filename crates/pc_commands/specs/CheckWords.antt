@@ -49,12 +49,12 @@ abbrev pub faults : List Text → Kinds
 faults = fault_of command_line
 
 -- the value of an argument in the words, empty if there is none
-abbrev pub value_of : Text → List Text → Text
-value_of id words = unwrap_or (first_of id (matches_of command_line words)) []
+abbrev pub argument_value : Text → List Text → Text
+argument_value id words = unwrap_or (first_of id (matches_of command_line words)) []
 
 -- whether a flag is given; its value is `true` then
 abbrev pub is_given : Text → List Text → Bool
-is_given id words = bytes_eq (value_of id words) (codes "true")
+is_given id words = bytes_eq (argument_value id words) (codes "true")
 
 -- the value of `--format`, if it is given
 abbrev pub format_word : List Text → Option Text
@@ -83,7 +83,7 @@ asked_of json types number file = in_format json types (format_asked types numbe
 abbrev pub asked : List Text → Option Asked
 asked words = without_faults (faults words)
     (asked_of (is_given (codes "json") words) (is_given (codes "types") words) (format_word words)
-    (value_of (codes "file") words))
+    (argument_value (codes "file") words))
 
 -- whether a word is the flag `--json`
 abbrev pub is_flag : Text → Bool

@@ -34,8 +34,8 @@ abbrev pub faults : List Text → Kinds
 faults = fault_of command_line
 
 -- the value of an argument in the words
-abbrev pub value_of : Text → List Text → Option Text
-value_of id words = first_of id (matches_of command_line words)
+abbrev pub argument_value : Text → List Text → Option Text
+argument_value id words = first_of id (matches_of command_line words)
 
 -- whether a word is a number: one digit or more, that fits 64 bits
 abbrev pub is_number : Text → Bool
@@ -53,7 +53,7 @@ with_file fuel file = None
 -- the request of the words: `clap` finds no fault in them, and the value of `--fuel` is a number
 abbrev pub asked : List Text → Option Asked
 asked words = without_faults (faults words)
-    (with_file (option_and_then fuel_in (value_of (codes "fuel") words)) (value_of (codes "file") words))
+    (with_file (option_and_then fuel_in (argument_value (codes "fuel") words)) (argument_value (codes "file") words))
 
 -- whether the words are plain: `--fuel` and two more, neither of which begins with a dash
 abbrev pub are_plain : List Text → Bool

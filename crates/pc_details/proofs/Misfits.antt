@@ -6,7 +6,7 @@ use Rattle.pc_tree.specs.Stopping.{has_none}
 use Rattle.pc_scope.specs.Resolution.{is_one_of}
 use Rattle.pc_class.specs.Facts.{TypedParameter}
 use Rattle.pc_rules.specs.Context.{Signature}
-use Rattle.pc_rules.specs.Calls.{GivenArguments, position_of, is_free, are_filled, is_suited, parameter_names}
+use Rattle.pc_rules.specs.Calls.{GivenArguments, index_of_parameter, is_free, are_filled, is_suited, parameter_names}
 use Rattle.pc_code_texts.specs.Details.{Misfit, no_parameter, given_twice, too_many, by_position_only}
 use Rattle.pc_details.specs.Calls.{named_misfit, unfilled, missing_misfit, misfit_or, misfit}
 
@@ -20,10 +20,10 @@ named_step false false all o a b h = refl
 
 -- each argument by name is for a free parameter exactly if there is no misfit of names
 named_exact : (n : ℕ) (ps : List TypedParameter) (words : List (List ℕ))
-    → list_all (λ word. is_free n (position_of ps word)) words ≡ not (is_some (named_misfit n ps words))
+    → list_all (λ word. is_free n (index_of_parameter ps word)) words ≡ not (is_some (named_misfit n ps words))
 named_exact n ps [] = refl
-named_exact n ps (word ∷ rest) = named_step (is_free n (position_of ps word)) (is_some (position_of ps word))
-    (list_all (λ word. is_free n (position_of ps word)) rest) (named_misfit n ps rest) (given_twice word)
+named_exact n ps (word ∷ rest) = named_step (is_free n (index_of_parameter ps word)) (is_some (index_of_parameter ps word))
+    (list_all (λ word. is_free n (index_of_parameter ps word)) rest) (named_misfit n ps rest) (given_twice word)
     (no_parameter word) (named_exact n ps rest)
 
 -- ---- parameters without an argument
@@ -66,7 +66,7 @@ misfits_exact g s =
     let before = parameter_names (take g.positional s.parameters) in
     let further = drop g.positional s.parameters in
     suited_step (nat_le g.positional count) (s.takes_names || has_none g.named)
-    (list_all (λ word. is_free g.positional (position_of s.parameters word)) g.named)
+    (list_all (λ word. is_free g.positional (index_of_parameter s.parameters word)) g.named)
     (are_filled g.named before further) (named_misfit g.positional s.parameters g.named)
     (missing_misfit s.takes_names count g.positional (unfilled g.named before further))
     (too_many count g.positional) by_position_only (named_exact g.positional s.parameters g.named)

@@ -12,7 +12,7 @@ use Rattle.pc_scope.specs.Resolution.{resolve_in_module}
 use Rattle.pc_types.specs.Tree.{Tree}
 use Rattle.pc_types.specs.Below.{Bases}
 use Rattle.pc_types.specs.Shape.{nodes}
-use Rattle.pc_annotations.specs.Annotations.{reading, readings, is_member, are_apart, is_union}
+use Rattle.pc_annotations.specs.Annotations.{reading, read_anns, is_member, are_apart, is_union}
 use Rattle.pc_annotations.specs.Bases.{bases_of}
 use Rattle.pc_code_texts.specs.Details as detail
 use Rattle.pc_code_texts.specs.Details.{Detail, AnnotationFault, Clash}
@@ -41,7 +41,7 @@ ClashesAreExact = (bases : Bases) (parts : List Tree) → is_union bases parts �
 
 -- E10: the first clash among the parts of the union
 abbrev pub union_detail : Module → Ann → Option (Detail Tree)
-union_detail m (union p parts) = option_map detail.union (clash_among (bases_of m) (readings m (bases_of m) parts))
+union_detail m (union p parts) = option_map detail.union (clash_among (bases_of m) (read_anns m (bases_of m) parts))
 union_detail m a = None
 
 -- ---- E26
@@ -93,7 +93,7 @@ annotation_detail m (named n) =
     Some (detail.annotation (fault_of_name m n.text (resolve_in_module m n.text)))
 annotation_detail m (applied p head arguments) =
     Some (detail.annotation (fault_of_types m head.text (resolve_in_module m head.text)
-    (readings m (bases_of m) arguments)))
+    (read_anns m (bases_of m) arguments)))
 annotation_detail m (applied_empty p head) =
     Some (detail.annotation (fault_of_types m head.text (resolve_in_module m head.text) []))
 annotation_detail m a = None

@@ -19,7 +19,7 @@ use Rattle.pc_annotations.specs.Text.{class_text}
 use Rattle.pc_class.specs.Facts.{TypedParameter, Method, classes_of, class_facts_at, field_by_name, method_by_name}
 use Rattle.pc_rules.specs.Context.{Signature}
 use Rattle.pc_rules.specs.Operations.{length_member}
-use Rattle.pc_rules.specs.Calls.{GivenArguments, arguments_given, position_of, is_free, is_suited, parameter_names}
+use Rattle.pc_rules.specs.Calls.{GivenArguments, arguments_given, index_of_parameter, is_free, is_suited, parameter_names}
 use Rattle.pc_rules.specs.Calls.{class_signature, method_signature, builtin_signature, range_signature}
 use Rattle.pc_rules.specs.Signatures.{signature_of}
 use Rattle.pc_code_texts.specs.Details as detail
@@ -32,9 +32,9 @@ use Rattle.pc_details.specs.Operations.{lacking, method_name}
 -- the first argument by name that no free parameter takes: there is no such parameter, or it is given by position
 abbrev pub named_misfit : ℕ → List TypedParameter → List (List ℕ) → Option Misfit
 named_misfit positional ps [] = None
-named_misfit positional ps (word ∷ rest) = if is_free positional (position_of ps word)
+named_misfit positional ps (word ∷ rest) = if is_free positional (index_of_parameter ps word)
     then named_misfit positional ps rest
-    else (if is_some (position_of ps word) then Some (detail.given_twice word) else Some (detail.no_parameter word))
+    else (if is_some (index_of_parameter ps word) then Some (detail.given_twice word) else Some (detail.no_parameter word))
 
 -- the further parameters that have neither a default nor an argument by name
 abbrev pub unfilled : List (List ℕ) → List (List ℕ) → List TypedParameter → List (List ℕ)

@@ -19,7 +19,7 @@ use Rattle.pc_notes.specs.Notes.{is_same_place}
 use Rattle.pc_module_rules.specs.Modules.{Labelling, IsLawful}
 use Rattle.pc_code_texts.specs.Details.{Detail}
 use Rattle.pc_details.specs.Facts.{Known, known_under}
-use Rattle.pc_details.specs.Nodes.{OwnedExpr, exprs_of, exprs_at, targets_at, anns_at, body_named_at}
+use Rattle.pc_details.specs.Nodes.{OwnedExpr, exprs_of_module, exprs_at, targets_at, anns_at, body_named_at}
 use Rattle.pc_details.specs.Operations.{operator_detail, index_detail, store_detail, iterate_detail, attribute_here}
 use Rattle.pc_details.specs.Operations.{attribute_target, method_target, value_detail, display_size, keys_detail}
 use Rattle.pc_details.specs.Calls.{call_detail, builtin_detail, any_call_detail, range_misfit}
@@ -40,7 +40,7 @@ calls_at p e = false
 
 -- whether the expression at a place is a callee
 abbrev pub is_callee_at : Module → Place → Test
-is_callee_at m p = list_any (λ (o : OwnedExpr). calls_at p o.expr) (exprs_of m)
+is_callee_at m p = list_any (λ (o : OwnedExpr). calls_at p o.expr) (exprs_of_module m)
 
 -- whether an expression is a call of `range`
 abbrev pub is_range_call : Expr → Test

@@ -23,7 +23,7 @@ use Rattle.pc_rules.specs.Labels.{FlowLabels, Labels, ItemsLabels, EntriesLabels
 use Rattle.pc_rules.specs.Signatures.{literal_place, ParamsLabels}
 use Rattle.pc_module_rules.specs.StatementLabels.{OptionLabels, TargetLabels, StmtLabels, SuiteLabels, BranchesLabels}
 use Rattle.pc_module_rules.specs.StatementLabels.{behind_list}
-use Rattle.pc_module_rules.specs.Modules.{MembersLabels, ItemLabels, ItemsLabels as ModuleItemsLabels}
+use Rattle.pc_module_rules.specs.Modules.{MembersLabels, ItemLabels, ModuleItemsLabels as ModuleItemsLabels}
 use Rattle.pc_module_rules.specs.Modules.{Labelling}
 
 -- a fact of a labelling: the type of an expression, or a flow of a value

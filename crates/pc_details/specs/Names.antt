@@ -24,7 +24,7 @@ use Rattle.pc_class.specs.Findings.{base_class}
 use Rattle.pc_notes.specs.Notes.{is_same_place}
 use Rattle.pc_code_texts.specs.Details as detail
 use Rattle.pc_code_texts.specs.Details.{Detail, FunctionName, Earlier, Elsewhere, Early, NoMain}
-use Rattle.pc_details.specs.Nodes.{OwnedExpr, exprs_of, function_name}
+use Rattle.pc_details.specs.Nodes.{OwnedExpr, exprs_of_module, function_name}
 use Rattle.pc_details.specs.Operations.{has_member, numbers_from}
 use Rattle.pc_details.specs.Overrides.{detail_or}
 
@@ -111,7 +111,7 @@ twice_among p t = option_and_then (λ n. option_map (detail.twice n.text) (repea
 -- E01: what already has the name: an item of the module, a parameter, `self`, or an argument of the call
 abbrev pub twice_detail : Module → Place → Option (Detail Tree)
 twice_detail m p = first_of_all (twice_among p)
-    (items_together m ∷ (map parameters_together (bodies m) ++ flat_map arguments_together (exprs_of m)))
+    (items_together m ∷ (map parameters_together (bodies m) ++ flat_map arguments_together (exprs_of_module m)))
 
 -- ---- E02, E03, E04
 

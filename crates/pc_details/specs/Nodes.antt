@@ -32,14 +32,14 @@ abbrev pub exprs_of_body : Body → List OwnedExpr
 exprs_of_body b = map (owned b.owner) (flat_map (parts_in false) (exprs_in_all false b.function.body))
 
 -- the expressions of a module with their parts: those of initializers, and then those of bodies
-abbrev pub exprs_of : Module → List OwnedExpr
-exprs_of m =
+abbrev pub exprs_of_module : Module → List OwnedExpr
+exprs_of_module m =
     map (owned owners.Module) (flat_map (λ c. parts_in false c.value) (constants_in m.items))
     ++ flat_map exprs_of_body (bodies m)
 
 -- the expressions at a place
 abbrev pub exprs_at : Module → Place → List OwnedExpr
-exprs_at m p = filter (λ (o : OwnedExpr). is_same_place p (place_of o.expr)) (exprs_of m)
+exprs_at m p = filter (λ (o : OwnedExpr). is_same_place p (place_of o.expr)) (exprs_of_module m)
 
 -- ---- statements
 

@@ -31,7 +31,7 @@ use Rattle.pc_rules.specs.Lawful.{int_literal}
 use Rattle.pc_code_texts.specs.Details as detail
 use Rattle.pc_code_texts.specs.Details.{Detail, Callable, Sink, FunctionName}
 use Rattle.pc_details.specs.Facts.{Known}
-use Rattle.pc_details.specs.Nodes.{OwnedExpr, exprs_of, stmts_in_suite, function_name}
+use Rattle.pc_details.specs.Nodes.{OwnedExpr, exprs_of_module, stmts_in_suite, function_name}
 use Rattle.pc_details.specs.Calls.{Called, callees_of}
 
 -- a sink of the value at a place: the type that the value flows into, none if it is the only sink there
@@ -212,7 +212,7 @@ module _ (m : Module) (known : Known) where
   abbrev pub sinks_of : List SinkAt
   sinks_of = flat_map sinks_of_constant (constants_in m.items)
       ++ (flat_map sinks_of_class (classes_in m.items)
-      ++ (flat_map sinks_of_body (bodies m) ++ flat_map sinks_in (exprs_of m)))
+      ++ (flat_map sinks_of_body (bodies m) ++ flat_map sinks_in (exprs_of_module m)))
 
   -- whether a sink takes a value of this place into this type
   abbrev takes_into : Place → Tree → SinkAt → Test

@@ -6,7 +6,7 @@ use Rattle.pc_tree.specs.NamesAlone.{name_of_tree}
 use Rattle.pc_tree.specs.Tree.{Expr, call, Stmt, Stmts, Branches, breaks, continues, returns, while_loop}
 use Rattle.pc_tree.specs.Tree.{for_loop, conditional, no_stmts, more_stmts, no_branches, more_branches, Module}
 use Rattle.pc_scope.specs.Bindings.{Body, bodies}
-use Rattle.pc_scope_findings.specs.Unreached.{first_of}
+use Rattle.pc_scope_findings.specs.Unreached.{first_token_place}
 use Rattle.pc_types.specs.Tree.{Tree}
 use Rattle.pc_class.specs.Facts.{return_type}
 use Rattle.pc_flow.specs.Narrowing.{first_argument}
@@ -29,7 +29,7 @@ loose_detail s = None
 -- E05: the keyword, `break` or `continue`
 abbrev pub outside_loop_detail : Module → Place → Option (Detail Tree)
 outside_loop_detail m p = option_and_then loose_detail
-    (find (λ s. is_same_place p (first_of s)) (flat_map (λ b. stmts_in_suite b.function.body) (bodies m)))
+    (find (λ s. is_same_place p (first_token_place s)) (flat_map (λ b. stmts_in_suite b.function.body) (bodies m)))
 
 -- ---- E30
 
@@ -42,11 +42,11 @@ leaving_of s = detail.leaves_by_if
 
 -- the detail of a statement after this one
 abbrev pub unreached_after : Stmt → Detail Tree
-unreached_after s = detail.unreachable (leaving_of s) (first_of s)
+unreached_after s = detail.unreachable (leaving_of s) (first_token_place s)
 
 -- the detail of a statement at a place, by the one before it, if there is one
 abbrev pub behind_stmt : Place → Option Stmt → Stmt → Option (Detail Tree)
-behind_stmt p before s = if is_same_place p (first_of s) then option_map unreached_after before else None
+behind_stmt p before s = if is_same_place p (first_token_place s) then option_map unreached_after before else None
 
 -- the details of the statement at a place, in a suite, a statement or branches: by the statement before it
 abbrev mutual

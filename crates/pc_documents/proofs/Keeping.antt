@@ -8,7 +8,7 @@ use Rattle.std.proofs.lemmas.List.{map-append, map-set, length-map, take-map, dr
 use Rattle.std.proofs.lemmas.List.Edits.{map_over_more}
 use Rattle.std.proofs.lemmas.List.Folds.{find_at}
 use Rattle.pc_documents.specs.declared.documents.Document.{Document}
-use Rattle.pc_documents.specs.Documents.{has_uri, place_at, document_at, is_open, with_document, without_document}
+use Rattle.pc_documents.specs.Documents.{has_uri, index_of_document, document_at, is_open, with_document, without_document}
 use Rattle.pc_documents.specs.Documents.{forgotten, OpenDocument, opened_of}
 
 -- the place of the first document with this address, or how many there are
@@ -36,7 +36,7 @@ place_along uri (other ∷ others) =
     elim (has uri other) as M [ true ↦ refl | false ↦ ap (λ k. 1 + k) (place_along uri others) ]
 
 pub place_of_map : (uri : List ℕ) (documents : List Document)
-    → place_at uri (map opened_of documents) ≡ position (λ d. bytes_eq (string_bytes d.uri) uri) documents
+    → index_of_document uri (map opened_of documents) ≡ position (λ d. bytes_eq (string_bytes d.uri) uri) documents
 place_of_map uri documents =
     ap (λ k. cond (nat_lt k (length (map opened_of documents))) (Some k) None) (place_along uri documents)
     ∙ ap (λ n. cond (nat_lt (position_or_len (has uri) documents) n)
@@ -107,32 +107,32 @@ slice_get-map [] k = refl
 slice_get-map (other ∷ others) zero = refl
 slice_get-map (other ∷ others) (suc k) = slice_get-map others k
 
--- ---- by what `place_at` gives
+-- ---- by what `index_of_document` gives
 
-pub open_some : (uri : List ℕ) (ds : List OpenDocument) (k : ℕ) → place_at uri ds ≡ Some k → is_open uri ds ≡ true
+pub open_some : (uri : List ℕ) (ds : List OpenDocument) (k : ℕ) → index_of_document uri ds ≡ Some k → is_open uri ds ≡ true
 open_some uri ds k e = open_at uri ds (placed _ _ k e).1
 
-pub open_none : (uri : List ℕ) (ds : List OpenDocument) → place_at uri ds ≡ None → is_open uri ds ≡ false
+pub open_none : (uri : List ℕ) (ds : List OpenDocument) → index_of_document uri ds ≡ None → is_open uri ds ≡ false
 open_none uri ds e = ap is_some (closed_at uri ds (not_placed _ _ e))
 
-pub without_some : (uri : List ℕ) (ds : List OpenDocument) (k : ℕ) → place_at uri ds ≡ Some k
+pub without_some : (uri : List ℕ) (ds : List OpenDocument) (k : ℕ) → index_of_document uri ds ≡ Some k
     → without_document uri ds ≡ remove ds k
 without_some uri ds k e =
     let p = placed _ _ k e in without_at uri ds p.1 ∙ ap (remove ds) p.0
 
-pub found_none : (uri : List ℕ) (documents : List Document) → place_at uri (map opened_of documents) ≡ None
+pub found_none : (uri : List ℕ) (documents : List Document) → index_of_document uri (map opened_of documents) ≡ None
     → document_at uri (map opened_of documents) ≡ None
 found_none uri documents e = closed_at uri (map opened_of documents) (not_placed _ _ e)
 
 pub found_some : (uri : List ℕ) (documents : List Document) (k : ℕ)
-    → place_at uri (map opened_of documents) ≡ Some k
+    → index_of_document uri (map opened_of documents) ≡ Some k
     → document_at uri (map opened_of documents) ≡ option_map opened_of (slice_get documents k)
 found_some uri documents k e =
     find_at (has_uri uri) (map opened_of documents)
     ∙ (ap (slice_get (map opened_of documents)) (placed _ _ k e).0 ∙ slice_get-map documents k)
 
 pub place_below : (uri : List ℕ) (documents : List Document) (k : ℕ)
-    → place_at uri (map opened_of documents) ≡ Some k → k < length documents
+    → index_of_document uri (map opened_of documents) ≡ Some k → k < length documents
 place_below uri documents k e =
     let p = placed _ _ k e in
     let same = p.0 in
@@ -141,7 +141,7 @@ place_below uri documents k e =
     omega arith
 
 pub put_some : (document : Document) (documents : List Document) (k : ℕ)
-    → place_at (string_bytes document.uri) (map opened_of documents) ≡ Some k
+    → index_of_document (string_bytes document.uri) (map opened_of documents) ≡ Some k
     → with_document (opened_of document) (map opened_of documents) ≡ map opened_of (set documents k document)
 put_some document documents k e =
     let p = placed _ _ k e in
@@ -150,7 +150,7 @@ put_some document documents k e =
     ∙ sym (map-set opened_of documents k document))
 
 pub put_none : (document : Document) (documents : List Document)
-    → place_at (string_bytes document.uri) (map opened_of documents) ≡ None
+    → index_of_document (string_bytes document.uri) (map opened_of documents) ≡ None
     → with_document (opened_of document) (map opened_of documents) ≡ map opened_of (documents ++ document ∷ [])
 put_none document documents e =
     with_new (opened_of document) (map opened_of documents) (not_placed _ _ e)

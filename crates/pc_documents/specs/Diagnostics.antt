@@ -98,15 +98,15 @@ refusal_data agreed text refusal = diagnostic_data (entry_at agreed.codes_page (
     1 (code_text refusal.code) (refusal_meaning_of refusal.code)
 
 -- a position in the first line
-abbrev pub first_line : ℕ → Data
-first_line character = position_data (record { line = 0; character = character })
+abbrev pub position_in_first_line : ℕ → Data
+position_in_first_line character = position_data (record { line = 0; character = character })
 
 -- a diagnostic without a code, about the whole text: a warning at its first character
 abbrev pub note_data : List ℕ → Data
 note_data message =
     object (member (codes "message") (string message)
     (member (codes "range")
-    (object (member (codes "end") (first_line 1) (member (codes "start") (first_line 0) no_members)))
+    (object (member (codes "end") (position_in_first_line 1) (member (codes "start") (position_in_first_line 0) no_members)))
     (member (codes "severity") (number (unsigned 2))
     (member (codes "source") (string (codes "pycheck")) no_members))))
 

@@ -24,8 +24,8 @@ abbrev pub has_uri : List ℕ → OpenDocument → Bool
 has_uri uri document = bytes_eq document.uri uri
 
 -- the index of the document with this URI
-abbrev pub place_at : List ℕ → List OpenDocument → Option ℕ
-place_at uri documents = position (has_uri uri) documents
+abbrev pub index_of_document : List ℕ → List OpenDocument → Option ℕ
+index_of_document uri documents = position (has_uri uri) documents
 
 -- the open document with this URI
 abbrev pub document_at : List ℕ → List OpenDocument → Option OpenDocument

@@ -7,7 +7,7 @@ ghost use Rattle.pc_position.specs.Positions.{IsPositionOf};
 ghost use Rattle.pc_documents.specs.Agreed.{agreed_of};
 ghost use Rattle.pc_documents.specs.Diagnostics.{position_data, range_data, severity_of, message_text, diagnostic_data};
 ghost use Rattle.pc_documents.specs.Diagnostics.{item_data, refusal_data, found_data, width_of, is_continuation};
-ghost use Rattle.pc_documents.specs.Diagnostics.{start_of, end_of, first_line, note_data, unknown_data, more_data};
+ghost use Rattle.pc_documents.specs.Diagnostics.{start_of, end_of, position_in_first_line, note_data, unknown_data, more_data};
 ghost use Rattle.pc_documents.specs.Diagnostics.{limited};
 
 use crate::anchors::{anchor, entry, refusal_anchor};
@@ -171,7 +171,7 @@ const SHOWN: usize = 999;
 
 /// Returns a position in the first line as JSON.
 fn first_line(alloc: Global, character: u64) -> Result<Value, AllocError>
-    ensures { IfOk result (λ v. view v ≡ first_line character) }
+    ensures { IfOk result (λ v. view v ≡ position_in_first_line character) }
 {
     position_value(alloc, Position { line: 0, character })
 }

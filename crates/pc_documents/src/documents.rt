@@ -1,7 +1,7 @@
 //! The open documents.
 
 ghost use Rattle.std.specs.Prelude.{◌≡◌, OnOk, OnErr, map, option_map, position, bytes_eq, string_bytes, remove};
-ghost use Rattle.pc_documents.specs.Documents.{place_at, document_at, with_document, forgotten, opened_of};
+ghost use Rattle.pc_documents.specs.Documents.{index_of_document, document_at, with_document, forgotten, opened_of};
 
 use std::alloc::AllocFailed;
 
@@ -27,8 +27,8 @@ fn first_of(documents: &[Document], uri: &str) -> Option<usize>
 
 /// Returns the index of the document with this URI, if it is open.
 #[tactic(auto, using(crate::proofs::Keeping::place_of_map))]
-pub fn place_of(documents: &[Document], uri: &str) -> Option<usize>
-    ensures { result ≡ place_at uri.now (map opened_of documents.now) }
+pub fn index_of_document(documents: &[Document], uri: &str) -> Option<usize>
+    ensures { result ≡ index_of_document uri.now (map opened_of documents.now) }
 {
     first_of(documents, uri)
 }
@@ -38,7 +38,7 @@ pub fn place_of(documents: &[Document], uri: &str) -> Option<usize>
 pub fn document_of<'a>(documents: &'a [Document], uri: &str) -> Option<&'a Document>
     ensures { option_map (λ d. opened_of d.now) result ≡ document_at uri.now (map opened_of documents.now) }
 {
-    let place = place_of(documents, uri)?;
+    let place = index_of_document(documents, uri)?;
     let document = documents.get(place)?;
     Some(document)
 }
@@ -50,7 +50,7 @@ pub fn put(documents: &mut Vec<Document>, document: Document) -> Result<(), Allo
         (map opened_of documents.new.items ≡ with_document (opened_of document) (map opened_of documents.old.items)) }
     ensures unchanged { OnErr result (documents.new.items ≡ documents.old.items) }
 {
-    match place_of(documents, document.uri.as_str()) {
+    match index_of_document(documents, document.uri.as_str()) {
         None => documents.push(document),
         Some(place) => {
             documents[place] = document;

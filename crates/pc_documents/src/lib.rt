@@ -13,7 +13,7 @@ mod told;
 
 pub use checker::{CheckOutcome, Checker, FlowTypes, ReportedFinding};
 pub use diagnostics::unknown_values;
-pub use documents::{Document, document_of, forget, place_of, put, remove};
+pub use documents::{Document, document_of, forget, index_of_document, put, remove};
 pub use settings::{Settings, WARNING};
 pub use symbols::symbols_of;
 pub use texts::{checked_as, checked_text, is_sent};

@@ -13,7 +13,7 @@ use crate::documents::Document;
 use crate::settings::Settings;
 use pc_front::read_module;
 use pc_position::{Encoding, Mark, Position, mark_after};
-use pc_source::{Fault, OutOfMemory};
+use pc_source::OutOfMemory;
 use pc_tree::{Item, ItemKind, Member, Name};
 use serde_json::{Value, json};
 use std::alloc::{AllocError, Global};
@@ -213,8 +213,10 @@ fn text_symbols(
     let bytes = text.as_bytes();
     match read_module(alloc, bytes) {
         Ok(module) => Ok(item_symbols(alloc, encoding, bytes, &module.items)?),
-        Err(Fault::Refused(_)) => Ok(Vec::new(alloc)),
-        Err(Fault::OutOfMemory) => Err(OutOfMemory),
+        Err(fault) => {
+            fault.refusal()?;
+            Ok(Vec::new(alloc))
+        }
     }
 }
 

@@ -19,7 +19,7 @@ use Rattle.pc_rules.specs.Computed.Findings.{label_at, shows, notes_of_code}
 use Rattle.pc_rules.specs.Computed.Standing.{Standing, items_in, label_in, parts_find, types_in, arguments_find}
 use Rattle.pc_rules.specs.Computed.Standing.{keywords_find}
 use Rattle.pc_calls.specs.JudgedCalls.{second_code_of}
-use Rattle.pc_expr.specs.Typing.{callee_in, callee_finds, early_in}
+use Rattle.pc_expr.specs.Typing.{callee_in, callee_finds, second_is_early}
 use Rattle.pc_expr.proofs.Forms.{callee_whole, judge_call}
 use Rattle.pc_expr.proofs.Typed.{two_found}
 
@@ -57,9 +57,9 @@ module _ (k : Standing) (want : Option Tree) where
       (callee_in k (arguments_given args kws) c).offers) args
       ++ (keywords_find k (named_seat (callee_in k (arguments_given args kws) c).offers) [] kws
       ++ notes_of_code (second_place args p) (second_code_of k.context.resolve
-      (callee_in k (arguments_given args kws) c).rule args (early_in k
+      (callee_in k (arguments_given args kws) c).rule args (second_is_early k
       (positional_seat (callee_in k (arguments_given args kws) c).offers) args))))
-  unfolding parts_find callee_finds callee_in arguments_find keywords_find early_in
+  unfolding parts_find callee_finds callee_in arguments_find keywords_find second_is_early
   parts_call p c args kws =
       let callee = callee_in k (arguments_given args kws) c in
       ap (λ code. callee_finds k (arguments_given args kws) c
@@ -90,7 +90,7 @@ module _ (k : Standing) (want : Option Tree) (p : Place) (c : Expr) (args : Expr
       (is_test early : Test) →
       noted ≡ label_at k.keeps (shows c) (place_of c) (callee_in k g c).label →
       is_test ≡ is_instance_test c args kws →
-      early ≡ early_in k (positional_seat offers) args →
+      early ≡ second_is_early k (positional_seat offers) args →
       callee_new ≡ old ++ parts_find k None c →
       callee_last ≡ callee_new ++ noted →
       then_arguments ≡ callee_last ++ arguments_find k is_test (positional_seat offers) args →
@@ -103,7 +103,7 @@ module _ (k : Standing) (want : Option Tree) (p : Place) (c : Expr) (args : Expr
       let second = arguments_find k (is_instance_test c args kws) (positional_seat callee.offers) args in
       let third = keywords_find k (named_seat callee.offers) [] kws in
       let fourth = notes_of_code (second_place args p) (second_code_of k.context.resolve callee.rule args
-      (early_in k (positional_seat callee.offers) args)) in
+      (second_is_early k (positional_seat callee.offers) args)) in
       let one : b ≡ old ++ first = two_found old a b (parts_find k None c)
       (label_at k.keeps (shows c) (place_of c) (callee_in k g c).label) ha
       (hb ∙ ap (λ ns. a ++ ns) noted_is) in
@@ -116,9 +116,9 @@ module _ (k : Standing) (want : Option Tree) (p : Place) (c : Expr) (args : Expr
       hl
       ∙ ap (λ t. e ++ notes_of_code (second_place args p) (second_code_of k.context.resolve rule args t)) early_is
       ∙ ap (λ (r : CallRule). e ++ notes_of_code (second_place args p)
-      (second_code_of k.context.resolve r args (early_in k (positional_seat offers) args))) rule_there
+      (second_code_of k.context.resolve r args (second_is_early k (positional_seat offers) args))) rule_there
       ∙ ap (λ (os : List CallOffer). e ++ notes_of_code (second_place args p)
-      (second_code_of k.context.resolve callee.rule args (early_in k (positional_seat os) args))) offers_there in
+      (second_code_of k.context.resolve callee.rule args (second_is_early k (positional_seat os) args))) offers_there in
       two_found old b last first (second ++ (third ++ fourth)) one
       (two_found b d last second (third ++ fourth) two (two_found d e last third fourth three four))
       ∙ ap (λ fs. old ++ (fs ++ (second ++ (third ++ fourth)))) (sym (callee_whole k g c)

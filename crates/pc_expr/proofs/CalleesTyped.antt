@@ -11,7 +11,7 @@ use Rattle.pc_rules.specs.Calls.{CalleeLabel, Seat}
 use Rattle.pc_rules.specs.Context.{is_early}
 use Rattle.pc_rules.specs.Computed.Findings.{once}
 use Rattle.pc_rules.specs.Computed.Standing.{Standing, label_in, finds_in, types_in, arguments_find}
-use Rattle.pc_expr.specs.Typing.{early_in}
+use Rattle.pc_expr.specs.Typing.{second_is_early}
 use Rattle.pc_rules.proofs.Once.{once_early}
 use Rattle.pc_expr.proofs.Forms.{types_none, types_more, early_two, arguments_first}
 use Rattle.pc_calls.specs.declared.callee.TypedCallee.{TypedCallee as RustCallee}
@@ -50,12 +50,12 @@ module _ (k : Standing) (seat : ℕ → Seat) (es : List RustExpr) (a b : RustEx
 
   pub two_early : (w : Option Tree) → w ≡ (seat 1).want → (codes : List Code)
       → codes ≡ once (label_in k w (expr_of b)).codes → (early : Test) → early ≡ is_early codes
-      → early ≡ early_in k seat (exprs_of_list es)
+      → early ≡ second_is_early k seat (exprs_of_list es)
   two_early w second codes is early e =
       e
       ∙ ap is_early (is ∙ ap (λ o. once (label_in k o (expr_of b)).codes) second)
       ∙ once_early (label_in k (seat 1).want (expr_of b)).codes
-      ∙ sym (ap (early_in k seat) are ∙ early_two k seat (expr_of a) (expr_of b) no_exprs)
+      ∙ sym (ap (second_is_early k seat) are ∙ early_two k seat (expr_of a) (expr_of b) no_exprs)
 
   -- of a test of an instance the first argument alone is looked at
   pub first_found : (v : Option Tree) → v ≡ (seat 0).want → (old new : List Note)

@@ -5,7 +5,7 @@ use Rattle.pc_source.specs.declared.place.Place.{Place}
 use Rattle.pc_tree.specs.Tree.{Expr, negation, conjunction, disjunction}
 use Rattle.pc_types.specs.Tree.{Tree}
 use Rattle.pc_notes.specs.Notes.{Note}
-use Rattle.pc_rules.specs.Computed.Findings.{own_at, brief, type_noted}
+use Rattle.pc_rules.specs.Computed.Findings.{own_at, brief, note_of_type}
 use Rattle.pc_rules.specs.Computed.Standing.{Standing, narrowed_standing, label_with, label_in, finds_in}
 use Rattle.pc_rules.specs.declared.label.Label.{Label as RustLabel}
 use Rattle.pc_expr.proofs.Forms.{parts_negation}
@@ -13,7 +13,7 @@ use Rattle.pc_expr.proofs.Typed.{whole_found, and_found, or_found}
 
 module _ {T : Type 0} (tree : T → Tree) (k : Standing) (l : RustLabel T) where
   abbrev noted : Place → List Note
-  noted p = type_noted k.keeps true p (tree l.ty) ++ flat_map (own_at p) l.codes.items
+  noted p = note_of_type k.keeps true p (tree l.ty) ++ flat_map (own_at p) l.codes.items
 
   pub negation_found : (p : Place) (e : Expr) (old new last : List Note)
       → label_with tree l ≡ brief (label_in k None (negation p e)) → new ≡ old ++ finds_in k None e

@@ -17,7 +17,7 @@ use Rattle.pc_rules.specs.Lawful.{keyword_seat}
 use Rattle.pc_rules.specs.Computed.Expressions.{flows_of}
 use Rattle.pc_rules.specs.Computed.Findings.{brief, flows_at}
 use Rattle.pc_rules.specs.declared.label.Label.{Label as RustLabel}
-use Rattle.pc_rules.specs.Computed.Standing.{Standing, label_with, label_in, finds_in, keys_in, values_in, entries_find}
+use Rattle.pc_rules.specs.Computed.Standing.{Standing, label_with, label_in, finds_in, keys_in, value_types_in, entries_find}
 use Rattle.pc_rules.specs.Computed.Standing.{keywords_find}
 use Rattle.pc_rules.proofs.Checkers.{in_turn}
 use Rattle.pc_expr.proofs.Forms.{keys_none, keys_more, values_none, values_more, entries_none, entries_more}
@@ -31,7 +31,7 @@ module _ (k : Standing) (x y : Seat) (es : List RustEntry) (i : ℕ) where
   keys_from = keys_in k x y (entries_of_list (drop i es))
 
   abbrev pub values_from : List Tree
-  values_from = values_in k x y (entries_of_list (drop i es))
+  values_from = value_types_in k x y (entries_of_list (drop i es))
 
   abbrev pub entries_from : List Note
   entries_from = entries_find k x y (entries_of_list (drop i es))
@@ -58,7 +58,7 @@ module _ (k : Standing) (x y : Seat) (es : List RustEntry) (i : ℕ) (e : RustEn
         ∙ append_assoc (map tree out) (tree l.ty ∷ []) (values_from k x y es (i + 1))
         ∙ ap (λ t. map tree out ++ t ∷ values_from k x y es (i + 1))
         (type_is tree l (label_in k y.want (expr_of e.value)) m)
-        ∙ ap (λ ts. map tree out ++ ts) (sym (ap (λ rest. values_in k x y (entries_of_list rest)) (cons_at es i e lt is)
+        ∙ ap (λ ts. map tree out ++ ts) (sym (ap (λ rest. value_types_in k x y (entries_of_list rest)) (cons_at es i e lt is)
         ∙ values_more k x y (expr_of e.key) (expr_of e.value) (entries_of_list (drop (i + 1) es))))
         ∙ h
 
@@ -91,7 +91,7 @@ module _ (k : Standing) (x y : Seat) (es : List RustEntry) (i : ℕ) (le : lengt
 
   pub values_end : (out all : List Tree) → out ++ values_from k x y es i ≡ all → out ≡ all
   values_end out all h = sym (append-nil out) ∙ ap (λ l. out ++ l)
-      (sym (ap (λ l. values_in k x y (entries_of_list l)) (drop_all i es le) ∙ values_none k x y)) ∙ h
+      (sym (ap (λ l. value_types_in k x y (entries_of_list l)) (drop_all i es le) ∙ values_none k x y)) ∙ h
 
   pub entries_end : (out all : List Note) → out ++ entries_from k x y es i ≡ all → out ≡ all
   entries_end out all h = sym (append-nil out) ∙ ap (λ l. out ++ l)

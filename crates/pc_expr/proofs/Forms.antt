@@ -27,10 +27,10 @@ use Rattle.pc_rules.specs.Computed.Expressions.{flows_of, dict_label, labels_of}
 use Rattle.pc_rules.specs.Computed.Findings.{label_at, shows, flows_at, notes_under, found_in_parts, found_in_items}
 use Rattle.pc_rules.specs.Computed.Findings.{found_in_arguments}
 use Rattle.pc_rules.specs.Computed.Standing.{Standing, narrowed_standing, label_in, finds_in, parts_find, items_in}
-use Rattle.pc_rules.specs.Computed.Standing.{types_in, items_find, arguments_find, keys_in, values_in, entries_find}
+use Rattle.pc_rules.specs.Computed.Standing.{types_in, items_find, arguments_find, keys_in, value_types_in, entries_find}
 use Rattle.pc_rules.specs.Computed.Standing.{keywords_find}
 use Rattle.pc_rules.proofs.PartsKept.{parts_kept}
-use Rattle.pc_expr.specs.Typing.{unnamed_callee, callee_in, callee_finds, early_in}
+use Rattle.pc_expr.specs.Typing.{unnamed_callee, callee_in, callee_finds, second_is_early}
 
 module _ (k : Standing) (want : Option Tree) where
   -- the findings in an expression: in its parts, and then at it
@@ -104,9 +104,9 @@ module _ (k : Standing) (want : Option Tree) where
   pub expected_dict_label : (p : Place) (es : Entries) → label_in k want (dict p es) ≡ dict_label k.context k.declared
       (static_test k.context.bases) (assignable_test k.context.bases) (dict_parts (members_of_expected want))
       (keys_in k (key_seat (dict_parts (members_of_expected want))) (value_seat (dict_parts (members_of_expected want)))
-      es) (values_in k (key_seat (dict_parts (members_of_expected want)))
+      es) (value_types_in k (key_seat (dict_parts (members_of_expected want)))
       (value_seat (dict_parts (members_of_expected want))) es)
-  unfolding label_in keys_in values_in
+  unfolding label_in keys_in value_types_in
   expected_dict_label p es = refl
 
   pub parts_dict : (p : Place) (es : Entries) → parts_find k want (dict p es) ≡ entries_find k
@@ -254,17 +254,17 @@ module _ (k : Standing) (seat : ℕ → Seat) where
   arguments_first e es = refl
 
   -- whether the second of several stands too early goes by the first of the others
-  pub early_none : early_in k seat no_exprs ≡ false
-  unfolding early_in
+  pub early_none : second_is_early k seat no_exprs ≡ false
+  unfolding second_is_early
   early_none = refl
 
-  pub early_one : (e : Expr) → early_in k seat (more_exprs e no_exprs) ≡ false
-  unfolding early_in
+  pub early_one : (e : Expr) → second_is_early k seat (more_exprs e no_exprs) ≡ false
+  unfolding second_is_early
   early_one e = refl
 
-  pub early_two : (e f : Expr) (es : Exprs) → early_in k seat (more_exprs e (more_exprs f es))
+  pub early_two : (e f : Expr) (es : Exprs) → second_is_early k seat (more_exprs e (more_exprs f es))
       ≡ is_early (label_in k (seat (suc 0)).want f).codes
-  unfolding early_in label_in
+  unfolding second_is_early label_in
   early_two e f es = refl
 
 module _ (k : Standing) (x y : Seat) where
@@ -277,13 +277,13 @@ module _ (k : Standing) (x y : Seat) where
   unfolding keys_in label_in
   keys_more a b es = refl
 
-  pub values_none : values_in k x y no_entries ≡ []
-  unfolding values_in
+  pub values_none : value_types_in k x y no_entries ≡ []
+  unfolding value_types_in
   values_none = refl
 
-  pub values_more : (a b : Expr) (es : Entries) → values_in k x y (more_entries a b es) ≡ (label_in k y.want b).type
-      ∷ values_in k x y es
-  unfolding values_in label_in
+  pub values_more : (a b : Expr) (es : Entries) → value_types_in k x y (more_entries a b es) ≡ (label_in k y.want b).type
+      ∷ value_types_in k x y es
+  unfolding value_types_in label_in
   values_more a b es = refl
 
   pub entries_none : entries_find k x y no_entries ≡ []

@@ -20,7 +20,7 @@ use Rattle.pc_rules.specs.declared.label.Label.{Label as RustLabel}
 use Rattle.pc_rules.proofs.Checkers.{in_turn}
 use Rattle.pc_expr.proofs.Typed.{type_is}
 use Rattle.pc_rules.specs.Computed.Standing.{Standing, label_with, label_in, finds_in, types_in, items_find}
-use Rattle.pc_expr.specs.Typing.{early_in}
+use Rattle.pc_expr.specs.Typing.{second_is_early}
 use Rattle.pc_rules.proofs.Once.{once_early}
 use Rattle.pc_expr.proofs.Forms.{types_none, types_more, items_none, items_more, early_none, early_one, early_two}
 
@@ -147,11 +147,11 @@ first_early k seat (more_exprs e es) = is_early (label_in k (seat 0).want e).cod
 
 -- whether the second item of all stands too early, of the items from a position on
 abbrev pub early_from : ℕ → Standing → (ℕ → Seat) → Exprs → Test
-early_from zero k seat es = early_in k seat es
+early_from zero k seat es = second_is_early k seat es
 early_from (suc zero) k seat es = first_early k seat es
 early_from (suc (suc n)) k seat es = false
 
-early_second_is : (k : Standing) (seat : ℕ → Seat) (e : Expr) (es : Exprs) → early_in k seat (more_exprs e es)
+early_second_is : (k : Standing) (seat : ℕ → Seat) (e : Expr) (es : Exprs) → second_is_early k seat (more_exprs e es)
     ≡ first_early k (λ i. seat (suc i)) es
 early_second_is k seat e no_exprs = early_one k seat e
 early_second_is k seat e (more_exprs f es) = early_two k seat e f es
@@ -179,7 +179,7 @@ module _ (k : Standing) (seat : ℕ → Seat) (items : List RustExpr) (e : RustE
       early_from i k (seats_from i seat) (exprs_of_list (drop i items))
       ≡ ((nat_eq i 1 && is_early (label_in k (seat i).want (expr_of e)).codes) || early_from (i + 1) k
       (seats_from (i + 1) seat) (exprs_of_list (drop (i + 1) items)))
-  early_at zero lt is = ap (λ es. early_in k seat (exprs_of_list es)) (cons_at items 0 e lt is)
+  early_at zero lt is = ap (λ es. second_is_early k seat (exprs_of_list es)) (cons_at items 0 e lt is)
       ∙ early_second_is k seat (expr_of e) (exprs_of_list (drop 1 items))
   early_at (suc zero) lt is = ap (λ es. first_early k (seats_from 1 seat) (exprs_of_list es)) (cons_at items 1 e lt is)
       ∙ sym (or_none (is_early (label_in k (seat 1).want (expr_of e)).codes))

@@ -28,9 +28,9 @@ use Rattle.pc_rules.specs.Operations.{index_member, binary_label, display_label}
 use Rattle.pc_rules.specs.Lawful.{list_item, dict_parts, tuple_parts, members_of_expected, item_seat, part_seat}
 use Rattle.pc_rules.specs.Lawful.{list_label, key_seat, value_seat, int_literal, compare_label, compare_types}
 use Rattle.pc_rules.specs.Computed.Expressions.{flows_of, dict_label}
-use Rattle.pc_rules.specs.Computed.Findings.{own_at, once, brief, type_noted, label_at, flows_at}
+use Rattle.pc_rules.specs.Computed.Findings.{own_at, once, brief, note_of_type, label_at, flows_at}
 use Rattle.pc_rules.specs.Computed.Standing.{Standing, narrowed_standing, label_in, finds_in, parts_find, types_in}
-use Rattle.pc_rules.specs.Computed.Standing.{items_find, keys_in, values_in, entries_find, label_with}
+use Rattle.pc_rules.specs.Computed.Standing.{items_find, keys_in, value_types_in, entries_find, label_with}
 use Rattle.pc_rules.specs.declared.label.Label.{Label as RustLabel}
 use Rattle.pc_expr.proofs.Forms.{finds_whole, label_negative, label_attribute, type_binary, label_compare}
 use Rattle.pc_expr.proofs.Forms.{parts_compare, label_conjunction, label_disjunction, parts_conjunction}
@@ -56,14 +56,14 @@ three_found old new next last a b c h k i = two_found old new last a (b ++ c) h 
 module _ {T : Type 0} (tree : T → Tree) (k : Standing) (want : Option Tree) where
   -- the notes of a label of the program, given the label that it means
   pub noted_label : (keeps shown : Test) (p : Place) (l : RustLabel T) (m : Label) → label_with tree l ≡ brief m
-      → type_noted keeps shown p (tree l.ty) ++ flat_map (own_at p) l.codes.items ≡ label_at keeps shown p m
+      → note_of_type keeps shown p (tree l.ty) ++ flat_map (own_at p) l.codes.items ≡ label_at keeps shown p m
   noted_label keeps shown p l m is =
-      ap (λ (x : Label). type_noted keeps shown p x.type ++ flat_map (own_at p) x.codes) is
+      ap (λ (x : Label). note_of_type keeps shown p x.type ++ flat_map (own_at p) x.codes) is
 
   -- the findings in an expression are those in its parts and the notes of its label
   pub whole_found : (e : Expr) (l : RustLabel T) (old new last : List Note)
       → label_with tree l ≡ brief (label_in k want e) → new ≡ old ++ parts_find k want e
-      → last ≡ new ++ (type_noted k.keeps true (place_of e) (tree l.ty) ++ flat_map (own_at (place_of e)) l.codes.items)
+      → last ≡ new ++ (note_of_type k.keeps true (place_of e) (tree l.ty) ++ flat_map (own_at (place_of e)) l.codes.items)
       → last ≡ old ++ finds_in k want e
   whole_found e l old new last is h j =
       two_found old new last (parts_find k want e) (label_at k.keeps true (place_of e) (label_in k want e)) h
@@ -232,7 +232,7 @@ module _ (k : Standing) (want : Option Tree) (p : Place) where
       ≡ key_seat (dict_parts (members_of_expected want))) (at_value : value
       ≡ value_seat (dict_parts (members_of_expected want))) where
     pub dict_is : (keys values : List Tree) → keys ≡ keys_in k key value (entries_of_list v.items)
-        → values ≡ values_in k key value (entries_of_list v.items) →
+        → values ≡ value_types_in k key value (entries_of_list v.items) →
         dict_label k.context k.declared (static_test k.context.bases) (assignable_test k.context.bases)
         (dict_parts (members_of_expected want)) keys values ≡ label_in k want (expr_of (View.Dict p v))
     dict_is keys values e f =
@@ -242,11 +242,11 @@ module _ (k : Standing) (want : Option Tree) (p : Place) where
         (dict_parts (members_of_expected want)) (keys_in k key value (entries_of_list v.items)) ts) f
         ∙ ap (λ (x : Seat). dict_label k.context k.declared (static_test k.context.bases)
         (assignable_test k.context.bases) (dict_parts (members_of_expected want))
-        (keys_in k x value (entries_of_list v.items)) (values_in k x value (entries_of_list v.items))) at_key
+        (keys_in k x value (entries_of_list v.items)) (value_types_in k x value (entries_of_list v.items))) at_key
         ∙ ap (λ (x : Seat). dict_label k.context k.declared (static_test k.context.bases)
         (assignable_test k.context.bases) (dict_parts (members_of_expected want))
         (keys_in k (key_seat (dict_parts (members_of_expected want))) x (entries_of_list v.items))
-        (values_in k (key_seat (dict_parts (members_of_expected want))) x (entries_of_list v.items))) at_value
+        (value_types_in k (key_seat (dict_parts (members_of_expected want))) x (entries_of_list v.items))) at_value
         ∙ sym (expected_dict_label k want p (entries_of_list v.items))
         ∙ ap (label_in k want) (sym (dict_tree p v))
 

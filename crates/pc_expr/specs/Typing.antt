@@ -27,5 +27,5 @@ callee_finds k g e = callee_notes_under k.keeps e (with_label e (labels_of k.con
     (callee_in k g e).label)
 
 -- whether the second of several expressions is E03: an initializer names it too early
-unfoldable pub early_in : Standing → (seat : ℕ → Seat) → Exprs → Test
-early_in k seat es = early_second es (items_in k seat es)
+unfoldable pub second_is_early : Standing → (seat : ℕ → Seat) → Exprs → Test
+second_is_early k seat es = early_second es (items_in k seat es)

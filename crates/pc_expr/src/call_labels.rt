@@ -17,11 +17,11 @@ ghost use Rattle.pc_rules.specs.Computed.Findings.{brief, notes_of_code, shows};
 ghost use Rattle.pc_rules.specs.Computed.Standing.{label_with, context_with};
 ghost use Rattle.pc_calls.specs.JudgedCalls.{offer_called, rule_of, second_code_of, HasCallOffer, IsCallee};
 ghost use Rattle.pc_expr.specs.Typing.{unnamed_callee};
-ghost use Rattle.pc_rules.specs.Computed.Checkers.{Finds, CheckerKept, IsLabel};
+ghost use Rattle.pc_rules.specs.Computed.Checkers.{AddsNotes, CheckerKept, IsLabel};
 ghost use Rattle.pc_flow.specs.Naming.{meanings};
 
 use crate::items::Typed;
-use crate::whole::call_label;
+use crate::whole::whole_call_label;
 use pc_calls::{TypedCallee, callee_in_error, callee_of_value, second_code};
 use pc_flow::Env;
 use pc_notes::Notes;
@@ -91,7 +91,7 @@ pub(crate) fn judge_call<S: TypeStore>(
         (whole_call_label (context_with S.tree setting.now) (env_of S.tree env.now) (rule_of callee.now.rule)
         (map (offer_called S.tree) callee.now.offers.items) (exprs_of_list arguments.now)
         (map S.tree typed.now.types.items))) }
-    ensures found { OnOk result (Finds checker.old checker.new
+    ensures found { OnOk result (AddsNotes checker.old checker.new
         (notes_of_code (second_place (exprs_of_list arguments.now) place)
         (second_code_of (meanings setting.now.names.now) (rule_of callee.now.rule)
         (exprs_of_list arguments.now) typed.now.early))) }
@@ -99,7 +99,7 @@ pub(crate) fn judge_call<S: TypeStore>(
 {
     let code = second_code(setting.names, callee.rule, arguments, typed.early);
     find_code(second_place(arguments, place), code, checker.found)?;
-    call_label(checker, setting, env, callee, arguments, &typed.types)
+    whole_call_label(checker, setting, env, callee, arguments, &typed.types)
 }
 
 /// Returns whether a call is an instance test: `isinstance` with two positional arguments and no other.

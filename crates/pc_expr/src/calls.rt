@@ -11,10 +11,10 @@ ghost use Rattle.pc_calls.specs.JudgedCalls.{given_with, offer_called, HasCallOf
 ghost use Rattle.pc_expr.specs.Typing.{callee_in};
 ghost use Rattle.pc_expr.specs.Internal.Seats.{AreTyped};
 ghost use Rattle.pc_expr.specs.Internal.Forms.{IsCall};
-ghost use Rattle.pc_rules.specs.Computed.Checkers.{Finds, CheckerKept, IsLabel, Stands};
+ghost use Rattle.pc_rules.specs.Computed.Checkers.{AddsNotes, CheckerKept, IsLabel, Stands};
 
 use crate::call_labels::{callee_of_other, is_test, judge_call, shows};
-use crate::items::{Typed, early_at};
+use crate::items::{Typed, is_second_early};
 use crate::typing::{check_expr, label_expr, type_seated};
 use indexmap::IndexSet;
 use pc_calls::given::given;
@@ -42,7 +42,7 @@ pub(crate) fn type_call<S: TypeStore>(
     ensures labelled { (expected : Option Tree) → IfOk result
         (λ l. IsLabel S.TypeStore checker.new l
         (label_in (standing_of S.tree setting.now env.now) expected (expr_of e.now))) }
-    ensures found { (expected : Option Tree) → OnOk result (Finds checker.old checker.new
+    ensures found { (expected : Option Tree) → OnOk result (AddsNotes checker.old checker.new
         (parts_find (standing_of S.tree setting.now env.now) expected (expr_of e.now))) }
     ensures goes_on { CheckerKept S.TypeStore checker.old checker.new }
 {
@@ -84,7 +84,7 @@ fn type_callee<'t, S: TypeStore>(
     ensures called { IfOk result
         (λ c. IsCallee S.has S.tree checker.new.store.now c
         (callee_in (standing_of S.tree setting.now env.now) (given_with given.now) (expr_of callee.now))) }
-    ensures found { OnOk result (Finds checker.old checker.new
+    ensures found { OnOk result (AddsNotes checker.old checker.new
         (parts_find (standing_of S.tree setting.now env.now) None (expr_of callee.now))) }
     ensures goes_on { CheckerKept S.TypeStore checker.old checker.new }
 {
@@ -145,7 +145,7 @@ fn type_tested<S: TypeStore>(
     ensures typed { IfOk result
         (λ t. AreTyped S.has S.tree checker.new.store.now (standing_of S.tree setting.now env.now) t
         (positional_seat (map (offer_called S.tree) offers.now)) (exprs_of_list arguments.now)) }
-    ensures found { OnOk result (Finds checker.old checker.new
+    ensures found { OnOk result (AddsNotes checker.old checker.new
         (arguments_find (standing_of S.tree setting.now env.now) true
         (positional_seat (map (offer_called S.tree) offers.now)) (exprs_of_list arguments.now))) }
     ensures goes_on { CheckerKept S.TypeStore checker.old checker.new }
@@ -184,7 +184,7 @@ pub(crate) fn type_arguments<S: TypeStore>(
     ensures typed { IfOk result
         (λ t. AreTyped S.has S.tree checker.new.store.now (standing_of S.tree setting.now env.now) t
         (positional_seat (map (offer_called S.tree) offers.now)) (exprs_of_list arguments.now)) }
-    ensures found { OnOk result (Finds checker.old checker.new
+    ensures found { OnOk result (AddsNotes checker.old checker.new
         (arguments_find (standing_of S.tree setting.now env.now) is_test
         (positional_seat (map (offer_called S.tree) offers.now)) (exprs_of_list arguments.now))) }
     ensures goes_on { CheckerKept S.TypeStore checker.old checker.new }
@@ -197,7 +197,7 @@ pub(crate) fn type_arguments<S: TypeStore>(
     for argument in arguments {
         let seat = positional_seat(checker.store, checker.alloc, offers, types.len())?;
         let label = type_seated(checker, setting, env, &seat, argument)?;
-        early = early_at(types.len(), &label.codes, early);
+        early = is_second_early(types.len(), &label.codes, early);
         types.push(label.ty)?;
     }
     Ok(Typed { types, early })
@@ -214,7 +214,7 @@ pub(crate) fn type_keywords<S: TypeStore>(
 ) -> Result<(), OutOfMemory>
     requires given { Stands S.TypeStore checker.old setting.now env.now }
     requires offers { All (HasCallOffer (S.has checker.old.store.now)) offers.now }
-    ensures found { OnOk result (Finds checker.old checker.new
+    ensures found { OnOk result (AddsNotes checker.old checker.new
         (keywords_find (standing_of S.tree setting.now env.now)
         (named_seat (map (offer_called S.tree) offers.now)) [] (keywords_of_list by_name.now))) }
     ensures goes_on { CheckerKept S.TypeStore checker.old checker.new }

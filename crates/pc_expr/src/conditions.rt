@@ -13,9 +13,10 @@ ghost use Rattle.pc_flow.specs.Narrowing.{IsSimple, tested_locals};
 ghost use Rattle.pc_flow.specs.Stored.{env_of, declared_of, HasEach, GivesEnv};
 ghost use Rattle.pc_flow.specs.Ways.{way_on, way_out};
 ghost use Rattle.pc_flow.specs.WellFormed.{IsWellFormedEnv};
-ghost use Rattle.pc_rules.specs.Computed.Checkers.{Finds, CheckerKept, IsLabel, Stands};
+ghost use Rattle.pc_rules.specs.Computed.Checkers.{AddsNotes, CheckerKept, IsLabel, Stands};
 ghost use Rattle.pc_rules.specs.Operations.{clean};
 ghost use Rattle.pc_rules.specs.Computed.Standing.{HasGivenAll, standing_of, label_in, finds_in};
+ghost use Rattle.pc_rules.specs.Computed.ModuleParents.{class_parents};
 ghost use Rattle.pc_expr.specs.Ways.{GivesWays};
 
 use crate::typing::check_expr;
@@ -61,7 +62,7 @@ fn junction_condition<S: TypeStore>(
     requires second { S.has checker.old.store.now second.label.ty }
     requires settled { HasEach (S.has checker.old.store.now) (way_out junction.now.connective first.ways) }
     requires late { HasEach (S.has checker.old.store.now) (way_out junction.now.connective second.ways) }
-    requires well_formed { IsWellFormedEnv setting.now.globals.now.outline.now.parents.now
+    requires well_formed { IsWellFormedEnv (class_parents setting.now.globals.now)
         (env_of S.tree (way_out junction.now.connective first.ways)) }
     requires agree { AgreeBelow (length setting.now.declared.now)
         (tested_locals (meanings setting.now.names.now) (expr_of junction.now.left.now)
@@ -70,13 +71,13 @@ fn junction_condition<S: TypeStore>(
         (env_of S.tree (way_out junction.now.connective second.ways)) }
     ensures labelled { IfOk result
         (λ n. IsLabel S.TypeStore checker.new n.label
-        (clean (join_or_object setting.now.globals.now.outline.now.parents.now (S.tree first.label.ty)
+        (clean (join_or_object (class_parents setting.now.globals.now) (S.tree first.label.ty)
         (S.tree second.label.ty)))) }
     ensures asked { IfOk result
         (λ n. way_on junction.now.connective n.ways ≡ way_on junction.now.connective second.ways) }
     ensures met { IfOk result
         (λ n. GivesEnv S.has S.tree checker.new.store.now (way_out junction.now.connective n.ways)
-        (join_env setting.now.globals.now.outline.now.parents.now (declared_of S.tree setting.now.declared.now)
+        (join_env (class_parents setting.now.globals.now) (declared_of S.tree setting.now.declared.now)
         (env_of S.tree (way_out junction.now.connective first.ways))
         (env_of S.tree (way_out junction.now.connective second.ways)))) }
     ensures found { checker.new.found.now ≡ checker.old.found.now }
@@ -150,7 +151,7 @@ pub fn type_condition<S: TypeStore>(
     ensures ways { IfOk result
         (λ n. GivesWays S.has S.tree checker.new.store.now setting.now (standing_of S.tree setting.now env.now) n.ways
         (expr_of e.now)) }
-    ensures found { OnOk result (Finds checker.old checker.new
+    ensures found { OnOk result (AddsNotes checker.old checker.new
         (finds_in (standing_of S.tree setting.now env.now) None (expr_of e.now))) }
     ensures goes_on { CheckerKept S.TypeStore checker.old checker.new }
 {

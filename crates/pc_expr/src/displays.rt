@@ -9,7 +9,7 @@ ghost use Rattle.pc_rules.specs.Computed.Standing.{standing_of, label_in, parts_
 ghost use Rattle.pc_rules.specs.Computed.Standing.{entries_find};
 ghost use Rattle.pc_expr.specs.Internal.Seats.{seats_of, seat_with, HasSeats, HasEntrySeats, AreEntryTypes};
 ghost use Rattle.pc_expr.specs.Internal.Forms.{IsDisplay};
-ghost use Rattle.pc_rules.specs.Computed.Checkers.{Finds, CheckerKept, HoldsIfAny, IsLabel, Stands};
+ghost use Rattle.pc_rules.specs.Computed.Checkers.{AddsNotes, CheckerKept, HoldsIfAny, IsLabel, Stands};
 
 use crate::entries::{EntrySeats, EntryTypes, dict_seats, expected_dict_label};
 use crate::items::{Seats, expected_list_label, list_seats, seat_at, tuple_seats};
@@ -37,7 +37,7 @@ pub(crate) fn label_display<S: TypeStore>(
     ensures labelled { IfOk result
         (λ l. IsLabel S.TypeStore checker.new l
         (label_in (standing_of S.tree setting.now env.now) (option_map S.tree want.now) (expr_of e.now))) }
-    ensures found { OnOk result (Finds checker.old checker.new
+    ensures found { OnOk result (AddsNotes checker.old checker.new
         (parts_find (standing_of S.tree setting.now env.now) (option_map S.tree want.now) (expr_of e.now))) }
     ensures goes_on { CheckerKept S.TypeStore checker.old checker.new }
 {
@@ -85,7 +85,7 @@ fn type_items<S: TypeStore>(
         (λ ts. map S.tree ts.items
         ≡ types_in (standing_of S.tree setting.now env.now) (seats_of S.tree seats.now)
         (exprs_of_list items.now)) }
-    ensures found { OnOk result (Finds checker.old checker.new
+    ensures found { OnOk result (AddsNotes checker.old checker.new
         (items_find (standing_of S.tree setting.now env.now) (seats_of S.tree seats.now)
         (exprs_of_list items.now))) }
     ensures goes_on { CheckerKept S.TypeStore checker.old checker.new }
@@ -114,7 +114,7 @@ fn type_entries<S: TypeStore>(
     ensures typed { IfOk result
         (λ t. AreEntryTypes S.has S.tree checker.new.store.now (standing_of S.tree setting.now env.now) t
         (seat_with S.tree seats.now.key) (seat_with S.tree seats.now.value) (entries_of_list entries.now)) }
-    ensures found { OnOk result (Finds checker.old checker.new
+    ensures found { OnOk result (AddsNotes checker.old checker.new
         (entries_find (standing_of S.tree setting.now env.now) (seat_with S.tree seats.now.key)
         (seat_with S.tree seats.now.value) (entries_of_list entries.now))) }
     ensures goes_on { CheckerKept S.TypeStore checker.old checker.new }

@@ -8,6 +8,7 @@ ghost use Rattle.pc_flow.specs.Stored.{declared_of};
 ghost use Rattle.pc_rules.specs.Lawful.{dict_parts, members_of_expected, key_seat, value_seat};
 ghost use Rattle.pc_rules.specs.Computed.Expressions.{dict_label};
 ghost use Rattle.pc_rules.specs.Computed.Standing.{context_with, HasIfAny, MeansLabel};
+ghost use Rattle.pc_rules.specs.Computed.ModuleParents.{class_parents};
 ghost use Rattle.pc_calls.specs.JudgedCalls.{IsSeat};
 ghost use Rattle.pc_expr.specs.Internal.Seats.{AreEntrySeats};
 
@@ -72,8 +73,8 @@ pub(crate) fn expected_dict_label<S: TypeStore>(
     ensures value { IfOk result
         (λ l. MeansLabel S.has S.tree store.new l
         (dict_label (context_with S.tree setting.now) (declared_of S.tree setting.now.declared.now)
-        (static_test setting.now.globals.now.outline.now.parents.now)
-        (assignable_test setting.now.globals.now.outline.now.parents.now)
+        (static_test (class_parents setting.now.globals.now))
+        (assignable_test (class_parents setting.now.globals.now))
         (dict_parts (members_of_expected (option_map S.tree want.now))) (map S.tree types.now.keys.items)
         (map S.tree types.now.values.items))) }
     ensures kept { KeepsTypes S.has store.old store.new }

@@ -33,7 +33,7 @@ pub(crate) struct Typed<Ty: Drop> {
 
 /// Returns whether the second of several expressions is E03. `early` is the answer so far, `codes` are those of the
 /// expression at `position`.
-pub(crate) fn early_at(position: usize, codes: &[Code], early: bool) -> bool
+pub(crate) fn is_second_early(position: usize, codes: &[Code], early: bool) -> bool
     ensures { result ≡ (early || (nat_eq position 1 && is_early codes.now)) }
 {
     let is_second = position == 1;

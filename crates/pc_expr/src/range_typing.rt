@@ -7,7 +7,7 @@ ghost use Rattle.pc_tree.specs.Lists.{exprs_of_list, keywords_of_list};
 ghost use Rattle.pc_rules.specs.Calls.{arguments_given, range_item};
 ghost use Rattle.pc_rules.specs.Computed.Standing.{standing_of};
 ghost use Rattle.pc_rules.specs.Computed.Ranges.{range_finds};
-ghost use Rattle.pc_rules.specs.Computed.Checkers.{Finds, CheckerKept, IsLabel, Stands};
+ghost use Rattle.pc_rules.specs.Computed.Checkers.{AddsNotes, CheckerKept, IsLabel, Stands};
 
 use crate::calls::{type_arguments, type_keywords};
 use pc_calls::given::given;
@@ -37,7 +37,7 @@ fn find_range<S: TypeStore>(
     range: &RangeCall<'_>,
 ) -> Result<(), OutOfMemory>
     requires { Stands S.TypeStore checker.old setting.now env.now }
-    ensures found { OnOk result (Finds checker.old checker.new
+    ensures found { OnOk result (AddsNotes checker.old checker.new
         (range_finds (standing_of S.tree setting.now env.now) range.now.place
         (expr_of range.now.callee.now) (exprs_of_list range.now.arguments.now)
         (keywords_of_list range.now.by_name.now))) }
@@ -66,7 +66,7 @@ pub fn type_range<S: TypeStore>(
     ensures label { IfOk result
         (λ l. IsLabel S.TypeStore checker.new l
         (range_item (arguments_given (exprs_of_list range.now.arguments.now) (keywords_of_list range.now.by_name.now)))) }
-    ensures found { OnOk result (Finds checker.old checker.new
+    ensures found { OnOk result (AddsNotes checker.old checker.new
         (range_finds (standing_of S.tree setting.now env.now) range.now.place
         (expr_of range.now.callee.now) (exprs_of_list range.now.arguments.now)
         (keywords_of_list range.now.by_name.now))) }

@@ -10,7 +10,8 @@ ghost use Rattle.pc_rules.specs.Computed.Expressions.{flows_of};
 ghost use Rattle.pc_rules.specs.Computed.Findings.{flows_at};
 ghost use Rattle.pc_rules.specs.Computed.Standing.{standing_of, label_in, finds_in, parts_find};
 ghost use Rattle.pc_expr.specs.Internal.Forms.{IsUnary, IsBinary, IsConnective};
-ghost use Rattle.pc_rules.specs.Computed.Checkers.{Finds, CheckerKept, HoldsIfAny, IsLabel, Stands};
+ghost use Rattle.pc_rules.specs.Computed.Checkers.{AddsNotes, CheckerKept, HoldsIfAny, IsLabel, Stands};
+ghost use Rattle.pc_rules.specs.Computed.ModuleParents.{class_parents};
 
 use crate::calls::type_call;
 use crate::conditions::type_condition;
@@ -41,7 +42,7 @@ pub fn check_expr<S: TypeStore>(
     ensures labelled { IfOk result
         (λ l. IsLabel S.TypeStore checker.new l
         (label_in (standing_of S.tree setting.now env.now) (option_map S.tree want.now) (expr_of e.now))) }
-    ensures found { OnOk result (Finds checker.old checker.new
+    ensures found { OnOk result (AddsNotes checker.old checker.new
         (finds_in (standing_of S.tree setting.now env.now) (option_map S.tree want.now) (expr_of e.now))) }
     ensures goes_on { CheckerKept S.TypeStore checker.old checker.new }
 {
@@ -75,10 +76,10 @@ pub(crate) fn type_seated<S: TypeStore>(
         (λ l. IsLabel S.TypeStore checker.new l
         (label_in (standing_of S.tree setting.now env.now) (option_map S.tree seat.now.want)
         (expr_of e.now))) }
-    ensures found { OnOk result (Finds checker.old checker.new
+    ensures found { OnOk result (AddsNotes checker.old checker.new
         (finds_in (standing_of S.tree setting.now env.now) (option_map S.tree seat.now.want) (expr_of e.now)
         ++ flows_at (place_of (expr_of e.now))
-        (flows_of setting.now.globals.now.outline.now.parents.now (label_in (standing_of S.tree setting.now env.now)
+        (flows_of (class_parents setting.now.globals.now) (label_in (standing_of S.tree setting.now env.now)
         (option_map S.tree seat.now.want) (expr_of e.now)) (map S.tree seat.now.into.items)))) }
     ensures goes_on { CheckerKept S.TypeStore checker.old checker.new }
 {
@@ -108,7 +109,7 @@ pub(crate) fn label_expr<S: TypeStore>(
     ensures labelled { IfOk result
         (λ l. IsLabel S.TypeStore checker.new l
         (label_in (standing_of S.tree setting.now env.now) (option_map S.tree want.now) (expr_of e.now))) }
-    ensures found { OnOk result (Finds checker.old checker.new
+    ensures found { OnOk result (AddsNotes checker.old checker.new
         (parts_find (standing_of S.tree setting.now env.now) (option_map S.tree want.now) (expr_of e.now))) }
     ensures goes_on { CheckerKept S.TypeStore checker.old checker.new }
 {
@@ -148,7 +149,7 @@ fn type_unary<S: TypeStore>(
     ensures labelled { (expected : Option Tree) → IfOk result
         (λ l. IsLabel S.TypeStore checker.new l
         (label_in (standing_of S.tree setting.now env.now) expected (expr_of e.now))) }
-    ensures found { (expected : Option Tree) → OnOk result (Finds checker.old checker.new
+    ensures found { (expected : Option Tree) → OnOk result (AddsNotes checker.old checker.new
         (parts_find (standing_of S.tree setting.now env.now) expected (expr_of e.now))) }
     ensures goes_on { CheckerKept S.TypeStore checker.old checker.new }
 {
@@ -192,7 +193,7 @@ fn type_binary<S: TypeStore>(
     ensures labelled { (expected : Option Tree) → IfOk result
         (λ l. IsLabel S.TypeStore checker.new l
         (label_in (standing_of S.tree setting.now env.now) expected (expr_of e.now))) }
-    ensures found { (expected : Option Tree) → OnOk result (Finds checker.old checker.new
+    ensures found { (expected : Option Tree) → OnOk result (AddsNotes checker.old checker.new
         (parts_find (standing_of S.tree setting.now env.now) expected (expr_of e.now))) }
     ensures goes_on { CheckerKept S.TypeStore checker.old checker.new }
 {
@@ -245,7 +246,7 @@ fn type_connective<S: TypeStore>(
     ensures labelled { (expected : Option Tree) → IfOk result
         (λ l. IsLabel S.TypeStore checker.new l
         (label_in (standing_of S.tree setting.now env.now) expected (expr_of e.now))) }
-    ensures found { (expected : Option Tree) → OnOk result (Finds checker.old checker.new
+    ensures found { (expected : Option Tree) → OnOk result (AddsNotes checker.old checker.new
         (parts_find (standing_of S.tree setting.now env.now) expected (expr_of e.now))) }
     ensures goes_on { CheckerKept S.TypeStore checker.old checker.new }
 {

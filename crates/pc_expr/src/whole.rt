@@ -9,6 +9,7 @@ ghost use Rattle.pc_rules.specs.Calls.{first_type, length_label};
 ghost use Rattle.pc_rules.specs.Computed.Checkers.{CheckerKept, IsLabel};
 ghost use Rattle.pc_rules.specs.Lawful.{whole_call_label};
 ghost use Rattle.pc_rules.specs.Computed.Standing.{context_with, MeansLabel};
+ghost use Rattle.pc_rules.specs.Computed.ModuleParents.{class_parents};
 ghost use Rattle.pc_calls.specs.JudgedCalls.{offer_called, rule_of, HasCallOffer};
 
 use pc_calls::{CallRule, TypedCallee, members_label, test_label};
@@ -46,7 +47,7 @@ fn length_label<S: TypeStore>(
     requires classes { HasEntries (S.has store.old) setting.now.globals.now.classes.now }
     requires types { All (S.has store.old) types.now }
     ensures label { IfOk result
-        (λ l. MeansLabel S.has S.tree store.new l (length_label setting.now.globals.now.outline.now.parents.now
+        (λ l. MeansLabel S.has S.tree store.new l (length_label (class_parents setting.now.globals.now)
         (map S.tree types.now))) }
     ensures kept { KeepsTypes S.has store.old store.new }
 {
@@ -65,7 +66,7 @@ fn length_label<S: TypeStore>(
 /// Returns the label of a whole call, given its callee, its arguments and their types: for `len` and an instance test
 /// the label of that operation, for any other callee the label of its offers. Appends nothing. Language Reference 6.3.4
 /// "Calls".
-pub(crate) fn call_label<S: TypeStore>(
+pub(crate) fn whole_call_label<S: TypeStore>(
     checker: &mut TypingState<'_, S>,
     setting: &ExprContext<'_, S::Ty>,
     env: &Env<S::Ty>,

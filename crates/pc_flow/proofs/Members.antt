@@ -16,13 +16,13 @@ use Rattle.pc_flow.specs.Narrowing.{member_passing, member_failing}
 use Rattle.pc_flow.specs.WellFormed.{IsTestable}
 use Rattle.pc_flow.specs.declared.testing.Test.{Test}
 use Rattle.pc_flow.specs.declared.testing.Test.TheVariants as tests
-use Rattle.pc_flow.specs.declared.testing.Standing.{Standing}
-use Rattle.pc_flow.specs.declared.testing.Standing.TheVariants.{Within, Above, Beside}
+use Rattle.pc_flow.specs.declared.testing.TestRelation.{TestRelation}
+use Rattle.pc_flow.specs.declared.testing.TestRelation.TheVariants.{Within, Above, Beside}
 use Rattle.pc_flow.specs.Tests.{tested_of, type_for, how_stands, IsOne}
 use Rattle.pc_flow.proofs.Rest.{mapped_rest}
 
 -- the parts left of a member with this relation to the tested type
-abbrev pub Leaves : Bases → Test → Tree → Standing → Type 0
+abbrev pub Leaves : Bases → Test → Tree → TestRelation → Type 0
 Leaves bases test m Within = (member_passing bases (tested_of test) m ≡ Some m)
     × (member_failing bases (tested_of test) m ≡ None)
 Leaves bases test m Above = (member_passing bases (tested_of test) m ≡ Some (type_for test))
@@ -80,7 +80,7 @@ leaves bases tests.Str _ h = (refl, refl)
 leaves bases (tests.Class c) _ h = (refl, refl)
 
 -- the parts left of a member, by the relation that was found
-pub leaves_at : (bases : Bases) (test : Test) (m : Tree) (head : Head) (r s : Standing) → IsOne m → head ≡ head_of m
+pub leaves_at : (bases : Bases) (test : Test) (m : Tree) (head : Head) (r s : TestRelation) → IsOne m → head ≡ head_of m
     → r ≡ how_stands bases test head → r ≡ s → Leaves bases test m s
 leaves_at bases test m head r s h e f g = subst (Leaves bases test m) (ap (how_stands bases test) (sym e) ∙ sym f ∙ g)
     (leaves bases test m h)

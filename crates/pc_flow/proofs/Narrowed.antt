@@ -18,7 +18,7 @@ use Rattle.pc_types.proofs.Descent.{reaches_below, below_reaches, chain_of, comp
 use Rattle.pc_types.proofs.Incomparable.{Incomparable, IncomparableToEach, ArePairwiseIncomparable}
 use Rattle.pc_types.proofs.Incomparable.{members_incomparable, union_reduced}
 use Rattle.pc_flow.specs.WellFormed.{IsTestable, PassingIsWellFormed, FailingIsWellFormed}
-use Rattle.pc_flow.specs.Narrowing.{Tested, for_none, for_type, for_list, is_within, member_within, member_passing}
+use Rattle.pc_flow.specs.Narrowing.{Tested, for_none, for_type, for_list, is_at_or_below, member_within, member_passing}
 use Rattle.pc_flow.specs.Narrowing.{member_failing, type_where_true, type_where_false}
 
 -- some of the members
@@ -127,7 +127,7 @@ failing_stays bases for_list _ = inr refl
 failing_stays bases (for_type c) Any = inr refl
 failing_stays bases (for_type c) Object = inr refl
 failing_stays bases (for_type c) (Union a b) = inr refl
-failing_stays bases (for_type c) m = tested_stays m (is_within bases c m)
+failing_stays bases (for_type c) m = tested_stays m (is_at_or_below bases c m)
 
 any_fails : (bases : Bases) (test : Tested) → IsWellFormed bases (type_where_false bases test Any)
 any_fails bases for_none = (tt, tt, omega arith)
@@ -165,7 +165,7 @@ above_absorbs bases c d o n h = and_from (not (c == d)) (reaches bases c c d)
 -- a member that does not absorb the tested type stays, or goes
 within_stays : (bases : Bases) (c m : Tree) → absorbs bases m c ≡ false → Stays (member_within bases c) m
 within_stays bases c m e =
-    cond_both (is_within bases c m) (Some m) (if absorbs bases m c then Some c else None)
+    cond_both (is_at_or_below bases c m) (Some m) (if absorbs bases m c then Some c else None)
     (λ o. (o ≡ None) ⊎ (o ≡ Some m)) (λ f. inr refl) (λ f. inl (cond-false (absorbs bases m c) (Some c) None e))
 
 -- by the three tests of a member

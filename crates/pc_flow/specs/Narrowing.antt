@@ -21,13 +21,13 @@ pub data Tested : Type 0 where
   for_list : Tested
 
 -- a member is the tested type or a subtype of it
-abbrev pub is_within : Bases → Tree → Tree → Test
-is_within bases c m = same_tree m c || absorbs bases c m
+abbrev pub is_at_or_below : Bases → Tree → Tree → Test
+is_at_or_below bases c m = same_tree m c || absorbs bases c m
 
 -- the member itself if it is a subtype of the tested type, the tested type if the member is a supertype of it, else
 -- none
 abbrev pub member_within : Bases → Tree → Tree → Option Tree
-member_within bases c m = if is_within bases c m then Some m else (if absorbs bases m c then Some c else None)
+member_within bases c m = if is_at_or_below bases c m then Some m else (if absorbs bases m c then Some c else None)
 
 -- the part of a member that passes a test; Any and object become the tested type. (A union is not a member of a type in
 -- normal form, and is kept.)
@@ -51,7 +51,7 @@ member_failing bases for_list (ListOf t) = None
 member_failing bases (for_type c) Any = Some Any
 member_failing bases (for_type c) Object = Some Object
 member_failing bases (for_type c) (Union a b) = Some (Union a b)
-member_failing bases (for_type c) m = if is_within bases c m then None else Some m
+member_failing bases (for_type c) m = if is_at_or_below bases c m then None else Some m
 member_failing bases _ m = Some m
 
 -- a type where a test of it is true; Never if no member is left

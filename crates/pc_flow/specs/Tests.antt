@@ -13,8 +13,8 @@ use Rattle.pc_flow.specs.declared.testing.Left.{Left}
 use Rattle.pc_flow.specs.declared.testing.Split.{Split}
 use Rattle.pc_flow.specs.declared.testing.Test.{Test}
 use Rattle.pc_flow.specs.declared.testing.Test.TheVariants as tests
-use Rattle.pc_flow.specs.declared.testing.Standing.{Standing}
-use Rattle.pc_flow.specs.declared.testing.Standing.TheVariants.{Within, Above, Beside}
+use Rattle.pc_flow.specs.declared.testing.TestRelation.{TestRelation}
+use Rattle.pc_flow.specs.declared.testing.TestRelation.TheVariants.{Within, Above, Beside}
 
 -- a test of the program as a test of the definitions
 abbrev pub tested_of : Test → Tested
@@ -40,11 +40,11 @@ type_for tests.Str = Str
 type_for (tests.Class c) = Class c
 
 -- the relation of a class to the tested class
-abbrev pub class_standing : Bases → (tested class : ℕ) → Standing
+abbrev pub class_standing : Bases → (tested class : ℕ) → TestRelation
 class_standing bases c d = if reaches bases d d c then Within else (if reaches bases c c d then Above else Beside)
 
 -- the relation of a type with this head to the tested type
-abbrev pub how_stands : Bases → Test → Head → Standing
+abbrev pub how_stands : Bases → Test → Head → TestRelation
 how_stands bases test heads.Any = Above
 how_stands bases test heads.Object = Above
 how_stands bases tests.None heads.None = Within
@@ -70,6 +70,6 @@ module _ {Store Ty : Type 0} (has : Store → Ty → Type 0) (tree : Ty → Tree
     pub failing : GivesOne has tree store l.failing f
 
   -- stored types that mean these: one where a test is true, one where it is false
-  pub record Splits (s : Split Ty) (p f : Tree) : Type 0 where
+  pub record MeansSplit (s : Split Ty) (p f : Tree) : Type 0 where
     pub passing : Means has tree store s.passing p
     pub failing : Means has tree store s.failing f

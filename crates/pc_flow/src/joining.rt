@@ -60,13 +60,14 @@ struct LocalMet<Ty: Drop> {
 }
 
 /// Returns the type of a local that both paths assign, and whether it is settled. The type is the join of its types,
-/// settled only if that is `s`; if they have no join, it is the declared type, or `Any` while that is unknown, and not
-/// settled.
+/// settled only if that is `s` and the caller asks; if they have no join, it is the declared type, or `Any` while that
+/// is unknown, and not settled.
 fn join_assigned<S: TypeStore>(
     store: &mut S,
     alloc: Global,
     parents: &Parents,
     declared: Option<&S::Ty>,
+    is_asked: bool,
     s: &S::Ty,
     t: &S::Ty,
 ) -> Result<LocalMet<S::Ty>, OutOfMemory>
@@ -84,7 +85,8 @@ fn join_assigned<S: TypeStore>(
 {
     match store.join(alloc, parents, s, t)? {
         Some(join) => {
-            let is_settled = is_same_type(store, alloc, &join, s)?;
+            // Comparing large types part by part takes longer than joining them.
+            let is_settled = is_asked && is_same_type(store, alloc, &join, s)?;
             Ok(LocalMet {
                 ty: Some(join),
                 is_settled,
@@ -97,13 +99,14 @@ fn join_assigned<S: TypeStore>(
     }
 }
 
-/// Returns the type of a local where two paths join, and whether it is settled. A local that is not assigned on both
-/// has no type, and is settled.
+/// Returns the type of a local where two paths join, and whether it is settled, if the caller asks. A local that is not
+/// assigned on both has no type, and is settled.
 fn join_local<S: TypeStore>(
     store: &mut S,
     alloc: Global,
     parents: &Parents,
     declared: Option<&S::Ty>,
+    is_asked: bool,
     s: Option<&S::Ty>,
     t: Option<&S::Ty>,
 ) -> Result<LocalMet<S::Ty>, OutOfMemory>
@@ -129,33 +132,42 @@ fn join_local<S: TypeStore>(
         None => Ok(none),
         Some(s) => match t {
             None => Ok(none),
-            Some(t) => join_assigned(store, alloc, parents, declared, s, t),
+            Some(t) => join_assigned(store, alloc, parents, declared, is_asked, s, t),
         },
     }
 }
 
-/// Gives a local of `met` its type where `a` and `b` join. Returns true only if joining `b` again changes nothing
+/// Two paths that join.
+#[derive(Drop)]
+pub(crate) struct Paths<'p, Ty: Drop> {
+    pub(crate) first: &'p Env<Ty>,
+    pub(crate) second: &'p Env<Ty>,
+    /// Whether the caller asks which locals are settled. A local that both paths assign is not, if it does not ask.
+    pub(crate) is_asked: bool,
+}
+
+/// Gives a local of `met` its type where two paths join. Returns true only if joining the second again changes nothing
 /// there.
 pub(crate) fn set_joined<S: TypeStore>(
     store: &mut S,
     alloc: Global,
     declarations: &Declarations<'_, S::Ty>,
     local: usize,
-    a: &Env<S::Ty>,
-    b: &Env<S::Ty>,
+    paths: &Paths<'_, S::Ty>,
     met: &mut Env<S::Ty>,
 ) -> Result<bool, OutOfMemory>
     requires declared { HasEach (S.has store.old) declarations.now.declared.now }
-    requires left { HasEach (S.has store.old) a.now }
-    requires right { HasEach (S.has store.old) b.now }
+    requires left { HasEach (S.has store.old) paths.now.first.now }
+    requires right { HasEach (S.has store.old) paths.now.second.now }
     requires met { HasEach (S.has store.old) met.old }
     ensures value { OnOk result (GivesEnv S.has S.tree store.new met.new (slice_set (env_of S.tree met.old) local
         (join_local declarations.now.parents.now (declared_type (declared_of S.tree declarations.now.declared.now)
-        local) (current (env_of S.tree a.now) local) (current (env_of S.tree b.now) local)))) }
+        local) (current (env_of S.tree paths.now.first.now) local)
+        (current (env_of S.tree paths.now.second.now) local)))) }
     ensures settled { IfOk result (λ settled. settled ≡ true → TakesIn declarations.now.parents.now
         (join_local declarations.now.parents.now (declared_type (declared_of S.tree declarations.now.declared.now)
-        local) (current (env_of S.tree a.now) local) (current (env_of S.tree b.now) local))
-        (current (env_of S.tree b.now) local)) }
+        local) (current (env_of S.tree paths.now.first.now) local) (current (env_of S.tree paths.now.second.now) local))
+        (current (env_of S.tree paths.now.second.now) local)) }
     ensures kept { KeepsTypes S.has store.old store.new }
 {
     let parents = declarations.parents;
@@ -165,8 +177,9 @@ pub(crate) fn set_joined<S: TypeStore>(
         alloc,
         parents,
         declared,
-        a.current(local),
-        b.current(local),
+        paths.is_asked,
+        paths.first.current(local),
+        paths.second.current(local),
     )?;
     met.set(alloc, local, joined.ty)?;
     Ok(joined.is_settled)
@@ -192,9 +205,14 @@ pub fn join_env<S: TypeStore>(
 {
     let locals = declarations.declared.types().len().min(b.len());
     let mut met = a.copied(alloc)?.first(locals);
+    // Nothing is joined again here, so it does not matter which locals are settled.
+    let paths = Paths {
+        first: a,
+        second: b,
+        is_asked: false,
+    };
     for local in 0..locals {
-        // Nothing is joined again here, so it does not matter whether the local is settled.
-        set_joined(store, alloc, declarations, local, a, b, &mut met)?;
+        set_joined(store, alloc, declarations, local, &paths, &mut met)?;
     }
     Ok(met)
 }

@@ -7,7 +7,7 @@ ghost use Rattle.pc_flow.specs.Declarations.{join_with};
 ghost use Rattle.pc_flow.specs.WellFormed.{IsWellFormedEnv};
 ghost use Rattle.pc_flow.specs.Stored.{env_of, HasEach, GivesEnv};
 
-use crate::joining::set_joined;
+use crate::joining::{Paths, set_joined};
 use crate::{Declarations, Env};
 use pc_source::OutOfMemory;
 use pc_types::TypeStore;
@@ -38,6 +38,45 @@ pub struct EnvJoin<Ty: Drop> {
 }
 
 /// Joins `b` into `a` at `locals`; elsewhere `a` must already subsume `b`. Returns the same environment as `join_env`,
+/// and the locals where a second join could still change something; if that is not asked, each local that both assign
+/// counts as such.
+fn join_at<S: TypeStore>(
+    store: &mut S,
+    alloc: Global,
+    declarations: &Declarations<'_, S::Ty>,
+    locals: &[usize],
+    a: Env<S::Ty>,
+    b: &Env<S::Ty>,
+    is_asked: bool,
+) -> Result<EnvJoin<S::Ty>, OutOfMemory>
+    requires declared { HasEach (S.has store.old) declarations.now.declared.now }
+    requires left { HasEach (S.has store.old) a }
+    requires right { HasEach (S.has store.old) b.now }
+    requires taken_in { TakesInOutside declarations.now.parents.now locals.now (env_of S.tree a) (env_of S.tree b.now) }
+    ensures value { IfOk result
+        (λ m. GivesEnv S.has S.tree store.new m.env
+        (join_with S.tree declarations.now (env_of S.tree a) (env_of S.tree b.now))) }
+    ensures settled { IfOk result (λ m. TakesInOutside declarations.now.parents.now m.unsettled.items
+        (env_of S.tree m.env) (env_of S.tree b.now)) }
+    ensures kept { KeepsTypes S.has store.old store.new }
+{
+    // The old types are read while they are replaced; a copy costs a pointer for each chunk.
+    let before = a.copied(alloc)?;
+    let mut env = a.first(declarations.declared.types().len().min(b.len()));
+    let mut unsettled = Vec::new(alloc);
+    let paths = Paths {
+        first: &before,
+        second: b,
+        is_asked,
+    };
+    for local in locals {
+        let is_settled = set_joined(store, alloc, declarations, *local, &paths, &mut env)?;
+        note_unsettled(&mut unsettled, *local, is_settled)?;
+    }
+    Ok(EnvJoin { env, unsettled })
+}
+
+/// Joins `b` into `a` at `locals`; elsewhere `a` must already subsume `b`. Returns the same environment as `join_env`,
 /// and the locals where a second join could still change something, so that joining paths one after another costs only
 /// what changes between them. Own rule of the profile.
 pub fn join_env_onto<S: TypeStore>(
@@ -59,15 +98,7 @@ pub fn join_env_onto<S: TypeStore>(
         (env_of S.tree m.env) (env_of S.tree b.now)) }
     ensures kept { KeepsTypes S.has store.old store.new }
 {
-    // The old types are read while they are replaced; a copy costs a pointer for each chunk.
-    let before = a.copied(alloc)?;
-    let mut env = a.first(declarations.declared.types().len().min(b.len()));
-    let mut unsettled = Vec::new(alloc);
-    for local in locals {
-        let is_settled = set_joined(store, alloc, declarations, *local, &before, b, &mut env)?;
-        note_unsettled(&mut unsettled, *local, is_settled)?;
-    }
-    Ok(EnvJoin { env, unsettled })
+    join_at(store, alloc, declarations, locals, a, b, true)
 }
 
 /// Joins `b` into `a` at `locals`; at all other declared locals they must agree, since the join of a type with itself
@@ -92,6 +123,6 @@ pub(crate) fn join_some<S: TypeStore>(
     ensures kept { KeepsTypes S.has store.old store.new }
 {
     let a = a.first(declarations.declared.types().len());
-    let met = join_env_onto(store, alloc, declarations, locals, a, b)?;
+    let met = join_at(store, alloc, declarations, locals, a, b, false)?;
     Ok(met.env)
 }

@@ -7,7 +7,7 @@ ghost use Rattle.pc_types.specs.Normal.{IsNormal};
 ghost use Rattle.pc_types.specs.Store.{Means, KeepsTypes};
 ghost use Rattle.pc_types.specs.WellFormed.{IsWellFormed};
 ghost use Rattle.pc_flow.specs.Narrowing.{type_where_true, type_where_false, member_passing, member_failing};
-ghost use Rattle.pc_flow.specs.Tests.{tested_of, type_for, class_standing, how_stands, IsOne, GivesLeft, Splits};
+ghost use Rattle.pc_flow.specs.Tests.{tested_of, type_for, class_standing, how_stands, IsOne, GivesLeft, MeansSplit};
 
 use pc_source::OutOfMemory;
 use pc_types::{Head, Parents, TypeStore};
@@ -27,7 +27,7 @@ pub enum Test {
 
 /// The relation of a member of a type to the tested type.
 #[derive(Clone, Copy, Debug, PartialEq, Eq)]
-pub enum Standing {
+pub enum TestRelation {
     /// The member is the tested type or a subtype of it.
     Within,
     /// The member is a proper supertype of the tested type.
@@ -51,34 +51,34 @@ pub struct Split<Ty: Drop> {
 }
 
 /// Returns the relation of a class to the tested class.
-fn class_stands(parents: &Parents, tested: usize, class: usize) -> Standing
+fn class_stands(parents: &Parents, tested: usize, class: usize) -> TestRelation
     ensures { result ≡ class_standing parents.now tested class }
 {
     if parents.is_within(class, tested) {
-        return Standing::Within;
+        return TestRelation::Within;
     }
     if parents.is_within(tested, class) {
-        return Standing::Above;
+        return TestRelation::Above;
     }
-    Standing::Beside
+    TestRelation::Beside
 }
 
 /// Returns the relation of a type with this head to the tested type.
-fn how_stands(parents: &Parents, test: Test, head: Head) -> Standing
+fn how_stands(parents: &Parents, test: Test, head: Head) -> TestRelation
     ensures { result ≡ how_stands parents.now test head }
 {
     match (head, test) {
-        (Head::Any, _) => Standing::Above,
-        (Head::Object, _) => Standing::Above,
-        (Head::None, Test::None) => Standing::Within,
-        (Head::List, Test::List) => Standing::Within,
-        (Head::Int, Test::Int) => Standing::Within,
-        (Head::Int, Test::Bool) => Standing::Above,
-        (Head::Bool, Test::Int) => Standing::Within,
-        (Head::Bool, Test::Bool) => Standing::Within,
-        (Head::Str, Test::Str) => Standing::Within,
+        (Head::Any, _) => TestRelation::Above,
+        (Head::Object, _) => TestRelation::Above,
+        (Head::None, Test::None) => TestRelation::Within,
+        (Head::List, Test::List) => TestRelation::Within,
+        (Head::Int, Test::Int) => TestRelation::Within,
+        (Head::Int, Test::Bool) => TestRelation::Above,
+        (Head::Bool, Test::Int) => TestRelation::Within,
+        (Head::Bool, Test::Bool) => TestRelation::Within,
+        (Head::Str, Test::Str) => TestRelation::Within,
         (Head::Class(class), Test::Class(tested)) => class_stands(parents, tested, class),
-        _ => Standing::Beside,
+        _ => TestRelation::Beside,
     }
 }
 
@@ -127,14 +127,14 @@ fn left_of<S: TypeStore>(
 {
     let head = store.head(member);
     match how_stands(parents, test, head) {
-        Standing::Within => {
+        TestRelation::Within => {
             let member = store.copy(alloc, member)?;
             Ok(Left {
                 passing: Some(member),
                 failing: None,
             })
         }
-        Standing::Above => {
+        TestRelation::Above => {
             let tested = type_for(store, alloc, test)?;
             let member = store.copy(alloc, member)?;
             Ok(Left {
@@ -142,7 +142,7 @@ fn left_of<S: TypeStore>(
                 failing: Some(member),
             })
         }
-        Standing::Beside => {
+        TestRelation::Beside => {
             let member = store.copy(alloc, member)?;
             Ok(Left {
                 passing: None,
@@ -192,7 +192,7 @@ pub(crate) fn split_type<S: TypeStore>(
     requires has { S.has store.old ty.now }
     requires well_formed { IsWellFormed parents.now (S.tree ty.now) }
     ensures value { IfOk result
-        (λ s. Splits S.has S.tree store.new s (type_where_true parents.now (tested_of test) (S.tree ty.now))
+        (λ s. MeansSplit S.has S.tree store.new s (type_where_true parents.now (tested_of test) (S.tree ty.now))
         (type_where_false parents.now (tested_of test) (S.tree ty.now))) }
     ensures kept { KeepsTypes S.has store.old store.new }
 {

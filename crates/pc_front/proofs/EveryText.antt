@@ -8,8 +8,8 @@ use Rattle.pc_source.specs.Text.{IsText}
 use Rattle.pc_token.specs.declared.token.Operator.{Operator}
 use Rattle.pc_token.specs.Context.{LexicalContext, line_start}
 use Rattle.pc_token.specs.Lexeme.{Lexeme, LogicalLine}
-use Rattle.pc_token.specs.Splitting.{Sort, Blanks, Comment, LineEnd, Lexical, Piece, after, Ending, Whole, Faulty}
-use Rattle.pc_token.specs.Splitting.{close_line, at_line_end, at_sort, items_of, HasLines}
+use Rattle.pc_token.specs.Splitting.{Sort, Blanks, Comment, LineEnd, Lexical, Piece, after, SplitEnd, Whole, Faulty}
+use Rattle.pc_token.specs.Splitting.{close_line, items_from_line_end, at_sort, items_of, HasLines}
 use Rattle.pc_layout.specs.Flat.{flat}
 use Rattle.pc_layout.specs.Stepping.{start}
 use Rattle.pc_layout.proofs.Forests.{planted, Planted}
@@ -45,7 +45,7 @@ closed from [] items h = h
 closed from (x ∷ xs) items h = one_more _ items h
 
 at_feed : (brackets : List Operator) (c : LexicalContext) (items : Items) → AreEnded items
-    → AreEnded (at_line_end brackets c items)
+    → AreEnded (items_from_line_end brackets c items)
 at_feed [] c items h = closed c.start c.done items h
 at_feed (o ∷ os) c items h = h
 
@@ -55,7 +55,7 @@ at_piece Comment c items h = h
 at_piece LineEnd c items h = at_feed c.brackets c items h
 at_piece (Lexical kind) c items h = h
 
-ended : (c : LexicalContext) (ps : List Piece) (ending : Ending) → AreEnded (items_of c ps ending)
+ended : (c : LexicalContext) (ps : List Piece) (ending : SplitEnd) → AreEnded (items_of c ps ending)
 ended c [] Whole = closed c.start c.done [] (inl ([], refl))
 ended c [] (Faulty code k) = inr ([], record { code = code; byte = c.at + k }, refl)
 ended c (p ∷ ps) ending = at_piece p.sort c (items_of (after c p) ps ending) (ended (after c p) ps ending)

@@ -21,7 +21,7 @@ use Rattle.pc_token.specs.Names.{is_bad_name}
 use Rattle.pc_token.specs.Numbers.{is_number_byte, number_run, is_bad_number, is_bad_point, digit_count, digit_limit}
 use Rattle.pc_token.specs.Operators.{operator_text, role_of}
 use Rattle.pc_token.specs.Spelling.{IsToken, IsLongest}
-use Rattle.pc_token.specs.Splitting.{Sort, Blanks, Comment, LineEnd, Lexical, Piece, FitsBySort, after_sort, Ending}
+use Rattle.pc_token.specs.Splitting.{Sort, Blanks, Comment, LineEnd, Lexical, Piece, FitsBySort, after_sort, SplitEnd}
 use Rattle.pc_token.specs.Splitting.{Whole, Faulty, Splits, MayOpenOrClose}
 use Rattle.pc_token.specs.Strings.{is_quote, IsString, is_tripled}
 use Rattle.pc_token.proofs.OneFault.{number_same}
@@ -98,8 +98,8 @@ unblank (b ∷ bs) (inr h) = h
 
 module _ (c : LexicalContext) (text : List ℕ) (most : ℕ) (short : length text ≤ suc most)
     (onward : (d : LexicalContext) (rest : List ℕ) → length rest ≤ most
-    → ¬ ((ps : List Piece) (ending : Ending) → ¬ (Splits d ps rest ending)))
-    (none : (ps : List Piece) (ending : Ending) → ¬ (Splits c ps text ending)) where
+    → ¬ ((ps : List Piece) (ending : SplitEnd) → ¬ (Splits d ps rest ending)))
+    (none : (ps : List Piece) (ending : SplitEnd) → ¬ (Splits c ps text ending)) where
   -- no piece fits, since the rest after it splits
   piece : (sort : Sort) (bytes rest : List ℕ) → text ≡ bytes ++ rest → FitsBySort c sort bytes rest → ⊥
   piece sort bytes rest is fits =
@@ -351,13 +351,13 @@ module _ (c : LexicalContext) (text : List ℕ) (most : ℕ) (short : length tex
 
 -- the end of the text is one, or a bracket is open there
 at_end : (c : LexicalContext) (brackets : List Operator) → c.brackets ≡ brackets
-    → ((ps : List Piece) (ending : Ending) → ¬ (Splits c ps [] ending)) → ⊥
+    → ((ps : List Piece) (ending : SplitEnd) → ¬ (Splits c ps [] ending)) → ⊥
 at_end c [] e none = none [] Whole (refl, e)
 at_end c (o ∷ os) e none = none [] (Faulty L5 0) (refl, inl (refl, λ z. absurd (omega (arith, z, ap length e))))
 
 -- each text splits into pieces, to its end or to a fault
 pub splits : (most : ℕ) (c : LexicalContext) (text : List ℕ) → length text ≤ most
-    → ¬ ((ps : List Piece) (ending : Ending) → ¬ (Splits c ps text ending))
+    → ¬ ((ps : List Piece) (ending : SplitEnd) → ¬ (Splits c ps text ending))
 splits most c [] short none = at_end c c.brackets refl none
 splits zero c (b ∷ bs) short none = absurd (omega (arith, short))
 splits (suc most) c (b ∷ bs) short none = first_byte c (b ∷ bs) most short (λ d rest low. splits most d rest low) none b

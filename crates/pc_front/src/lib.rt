@@ -8,4 +8,4 @@ pub use laws::{
     every_text_is_answered, module_or_refusal, one_module_of_bytes, one_refusal_of_bytes,
     refusals_of_bytes_within,
 };
-pub use reading::{module_in, read_module};
+pub use reading::{parse_source, read_module};

@@ -21,7 +21,7 @@ use std::alloc::Global;
 ///
 /// The refusal of the first stage that fails, among tokens, layout and grammar, at its lowest byte; `OutOfMemory` if an
 /// allocation fails.
-pub fn module_in(alloc: Global, source: &Source) -> Result<Module, Fault>
+pub fn parse_source(alloc: Global, source: &Source) -> Result<Module, Fault>
     requires { IsText source.now }
     ensures read { IfOk result (λ m. IsModuleOf source.now (module_of m)) }
     ensures keyed { IfOk result (λ m. m.keys ≡ keys_of source.now) }
@@ -45,5 +45,5 @@ pub fn read_module(alloc: Global, bytes: &[u8]) -> Result<Module, Fault>
     ensures within { IfErr result (IsWithin (length bytes.now)) }
 {
     let text = read_source(alloc, bytes)?;
-    module_in(alloc, &text)
+    parse_source(alloc, &text)
 }

@@ -15,8 +15,8 @@ use Rattle.pc_grammar.specs.Machine.Kinds.{same_kind}
 use Rattle.pc_grammar.specs.Machine.States.{AnnStack, ann_inside, part_due, part_named, part_read, argument_due}
 use Rattle.pc_grammar.specs.Machine.States.{empty_opened, empty_closed, on}
 use Rattle.pc_grammar.specs.Machine.Finishing.{add_ann}
-use Rattle.pc_grammar.specs.Machine.Annotations.{whole_ann, ann_end, part_turn, part_read_turn}
-use Rattle.pc_grammar.specs.Machine.{at, run}
+use Rattle.pc_grammar.specs.Machine.Annotations.{ann_of_parts, ann_end, part_turn, part_read_turn}
+use Rattle.pc_grammar.specs.Machine.{at, read_tokens}
 use Rattle.pc_grammar.proofs.Runs.{run_same, run_none}
 use Rattle.pc_grammar.proofs.Sequences.{token_run, all_four}
 use Rattle.pc_grammar.proofs.CompleteExpressions.{name_run}
@@ -81,20 +81,20 @@ no_bracket_just k h ts (t, tk, is) rest = subst (λ x. NoBracket (x ++ rest)) (s
 abbrev pub ReadsPart : Ann → Type 0
 ReadsPart a = (ts : List Lexeme) → SpellsAnn a false ts → (parts : Anns) (before : List Lexeme) (s : AnnStack)
     (rest : List Lexeme) → NoBracket rest
-    → run (at (part_due parts before s)) (ts ++ rest) ≡ run (at (part_read a ts parts before s)) rest
+    → read_tokens (at (part_due parts before s)) (ts ++ rest) ≡ read_tokens (at (part_read a ts parts before s)) rest
 
 -- a whole one
 abbrev pub ReadsAnn : Ann → Type 0
 ReadsAnn a = (ts : List Lexeme) → SpellsAnn a true ts → (s : AnnStack) (rest : List Lexeme) → Clear rest
-    → run (at (part_due no_anns [] s)) (ts ++ rest) ≡ run (at (part_read a ts no_anns [] s)) rest
+    → read_tokens (at (part_due no_anns [] s)) (ts ++ rest) ≡ read_tokens (at (part_read a ts no_anns [] s)) rest
 
 -- arguments, up to the closing bracket
 abbrev pub ReadsArguments : Anns → Type 0
 ReadsArguments xs = (ts : List Lexeme) → Separated xs sign.Comma true ts
     → (head : Name) (done : Anns) (eaten : List Lexeme) (parts : Anns) (before : List Lexeme) (s : AnnStack)
     → (c : List Lexeme) → Sign sign.RightBracket c → (rest : List Lexeme)
-    → run (at (part_due no_anns [] (ann_inside head done eaten parts before s))) (ts ++ (c ++ rest))
-    ≡ run (at (part_read (applied (span (eaten ++ (ts ++ c))) head (append_anns done xs)) (eaten ++ (ts ++ c)) parts
+    → read_tokens (at (part_due no_anns [] (ann_inside head done eaten parts before s))) (ts ++ (c ++ rest))
+    ≡ read_tokens (at (part_read (applied (span (eaten ++ (ts ++ c))) head (append_anns done xs)) (eaten ++ (ts ++ c)) parts
     before s)) rest
 
 -- the parts of a union, after others or where there are several
@@ -102,15 +102,15 @@ abbrev pub ReadsParts : Anns → Type 0
 ReadsParts xs = (ts : List Lexeme) → Separated xs sign.Bar false ts
     → (parts : Anns) (before : List Lexeme) (s : AnnStack) → IsMore parts ⊎ AreSeveral xs
     → (rest : List Lexeme) → Clear rest
-    → run (at (part_due parts before s)) (ts ++ rest)
-    ≡ run (at (part_read (union (span (before ++ ts)) (append_anns parts xs)) (before ++ ts) no_anns [] s)) rest
+    → read_tokens (at (part_due parts before s)) (ts ++ rest)
+    ≡ read_tokens (at (part_read (union (span (before ++ ts)) (append_anns parts xs)) (before ++ ts) no_anns [] s)) rest
 
 -- ---- parts
 
 -- after a name that no bracket follows
 name_ends : (n : Name) (ts : List Lexeme) (parts : Anns) (before : List Lexeme) (s : AnnStack) (rest : List Lexeme)
     → NoBracket rest
-    → run (at (part_named n ts parts before s)) rest ≡ run (at (part_read (named n) ts parts before s)) rest
+    → read_tokens (at (part_named n ts parts before s)) rest ≡ read_tokens (at (part_read (named n) ts parts before s)) rest
 name_ends n ts parts before s [] h = run_none _ ∙ sym (run_none _)
 name_ends n ts parts before s (t ∷ rest) h = run_same _ _ t rest
     (ap (λ b. on b (argument_due n (ts ++ (t ∷ [])) parts before s)
@@ -125,7 +125,7 @@ reads_none : (p : Place) → ReadsPart (none_type p)
 reads_none p ts (e, h) parts before s rest st =
     token_run (kind.Keyword word.None) (part_due parts before s) (λ x. part_read (none_type (span x)) x parts before s)
     (λ t. refl) ts h rest
-    ∙ ap (λ q. run (at (part_read (none_type q) ts parts before s)) rest) (sym e)
+    ∙ ap (λ q. read_tokens (at (part_read (none_type q) ts parts before s)) rest) (sym e)
 
 -- an annotation begins with a name or `None`
 abbrev StartsAnn : Spelling
@@ -163,7 +163,7 @@ mutual
 -- tokens that begin an annotation are read as the first argument after a bracket
 argument_begins : (head : Name) (eaten : List Lexeme) (parts : Anns) (before : List Lexeme) (s : AnnStack)
     (ts : List Lexeme) → StartsAnn ts
-    → run (at (argument_due head eaten parts before s)) ts ≡ run
+    → read_tokens (at (argument_due head eaten parts before s)) ts ≡ read_tokens
     (at (part_due no_anns [] (ann_inside head no_anns eaten parts before s))) ts
 argument_begins head eaten parts before s [] h = absurd h
 argument_begins head eaten parts before s (t ∷ ts) h = run_same _ _ t ts
@@ -176,10 +176,10 @@ reads_applied p head xs arguments ts (e, w) parts before s rest st =
     let b : List Lexeme = w.right.front in
     let d : List Lexeme = w.right.right.front in
     let c : List Lexeme = w.right.right.back in
-    let P : List Lexeme → Type 0 = λ x. run (at (part_due parts before s)) (x ++ rest)
-    ≡ run (at (part_read (applied (span x) head xs) x parts before s)) rest in
+    let P : List Lexeme → Type 0 = λ x. read_tokens (at (part_due parts before s)) (x ++ rest)
+    ≡ read_tokens (at (part_read (applied (span x) head xs) x parts before s)) rest in
     subst P (sym (all_four w))
-    (ap (run (at (part_due parts before s))) (append_assoc a (b ++ (d ++ c)) rest
+    (ap (read_tokens (at (part_due parts before s))) (append_assoc a (b ++ (d ++ c)) rest
     ∙ ap (λ x. a ++ x) (append_assoc b (d ++ c) rest ∙ ap (λ x. b ++ x) (append_assoc d c rest)))
     ∙ name_run head (part_due parts before s) (λ m x. part_named m x parts before s) (λ t. refl) a w.left
     (b ++ (d ++ (c ++ rest)))
@@ -188,8 +188,8 @@ reads_applied p head xs arguments ts (e, w) parts before s rest st =
     ∙ argument_begins head (a ++ b) parts before s (d ++ (c ++ rest))
     (starts_ann_append d (c ++ rest) (starts_separated xs sign.Comma true d w.right.right.left))
     ∙ arguments d w.right.right.left head no_anns (a ++ b) parts before s c w.right.right.right rest
-    ∙ ap (λ x. run (at (part_read (applied (span x) head xs) x parts before s)) rest) (append_assoc a b (d ++ c)))
-    ∙ ap (λ q. run (at (part_read (applied q head xs) ts parts before s)) rest) (sym e)
+    ∙ ap (λ x. read_tokens (at (part_read (applied (span x) head xs) x parts before s)) rest) (append_assoc a b (d ++ c)))
+    ∙ ap (λ q. read_tokens (at (part_read (applied q head xs) ts parts before s)) rest) (sym e)
 
 regroup_three : (a b c d : List Lexeme) → ((a ++ b) ++ c) ++ d ≡ a ++ (b ++ (c ++ d))
 regroup_three a b c d = simp append_assoc
@@ -201,10 +201,10 @@ reads_applied_empty p head ts (e, w) parts before s rest st =
     let c : List Lexeme = w.right.right.front in
     let d : List Lexeme = w.right.right.right.front in
     let f : List Lexeme = w.right.right.right.back in
-    let P : List Lexeme → Type 0 = λ x. run (at (part_due parts before s)) (x ++ rest)
-    ≡ run (at (part_read (applied_empty (span x) head) x parts before s)) rest in
+    let P : List Lexeme → Type 0 = λ x. read_tokens (at (part_due parts before s)) (x ++ rest)
+    ≡ read_tokens (at (part_read (applied_empty (span x) head) x parts before s)) rest in
     subst P (sym (all_four w ∙ ap (λ z. a ++ (b ++ (c ++ z))) w.right.right.right.all))
-    (ap (run (at (part_due parts before s))) (append_assoc a (b ++ (c ++ (d ++ f))) rest
+    (ap (read_tokens (at (part_due parts before s))) (append_assoc a (b ++ (c ++ (d ++ f))) rest
     ∙ ap (λ z. a ++ z) (append_assoc b (c ++ (d ++ f)) rest
     ∙ ap (λ z. b ++ z) (append_assoc c (d ++ f) rest ∙ ap (λ z. c ++ z) (append_assoc d f rest))))
     ∙ name_run head (part_due parts before s) (λ m x. part_named m x parts before s) (λ t. refl) a w.left
@@ -219,26 +219,26 @@ reads_applied_empty p head ts (e, w) parts before s rest st =
     ∙ token_run (kind.Operator sign.RightBracket) (empty_closed head (((a ++ b) ++ c) ++ d) parts before s)
     (λ x. part_read (applied_empty (span ((((a ++ b) ++ c) ++ d) ++ x)) head) ((((a ++ b) ++ c) ++ d) ++ x) parts before
     s) (λ t. refl) f w.right.right.right.right rest
-    ∙ ap (λ x. run (at (part_read (applied_empty (span x) head) x parts before s)) rest)
+    ∙ ap (λ x. read_tokens (at (part_read (applied_empty (span x) head) x parts before s)) rest)
     (append_assoc ((a ++ b) ++ c) d f ∙ regroup_three a b c (d ++ f)))
-    ∙ ap (λ q. run (at (part_read (applied_empty q head) ts parts before s)) rest) (sym e)
+    ∙ ap (λ q. read_tokens (at (part_read (applied_empty q head) ts parts before s)) rest) (sym e)
 
 -- ---- unions
 
 several_whole : (parts : Anns) (a : Ann) (ts : List Lexeme) → IsMore parts
-    → whole_ann parts a ts ≡ union (span ts) (add_ann parts a)
+    → ann_of_parts parts a ts ≡ union (span ts) (add_ann parts a)
 several_whole no_anns a ts h = absurd h
 several_whole (more_anns x xs) a ts h = refl
 
 -- the last part of a union ends it
 union_ends : (a : Ann) (ts : List Lexeme) (parts : Anns) (before : List Lexeme) (s : AnnStack) → IsMore parts
     → (rest : List Lexeme) → Clear rest
-    → run (at (part_read a ts parts before s)) rest
-    ≡ run (at (part_read (union (span (before ++ ts)) (add_ann parts a)) (before ++ ts) no_anns [] s)) rest
+    → read_tokens (at (part_read a ts parts before s)) rest
+    ≡ read_tokens (at (part_read (union (span (before ++ ts)) (add_ann parts a)) (before ++ ts) no_anns [] s)) rest
 union_ends a ts parts before s m [] h = run_none _ ∙ sym (run_none _)
 union_ends a ts parts before s m (t ∷ rest) h = run_same _ _ t rest
     (ap (λ b. on b (part_due (add_ann parts a) (before ++ (ts ++ (t ∷ []))) s)
-    (ann_end (whole_ann parts a (before ++ ts)) (before ++ ts) s t t.kind)) h.1
+    (ann_end (ann_of_parts parts a (before ++ ts)) (before ++ ts) s t t.kind)) h.1
     ∙ ap (λ x. ann_end x (before ++ ts) s t t.kind) (several_whole parts a (before ++ ts) m)
     ∙ sym (ap (λ b. on b (part_due (add_ann no_anns (union (span (before ++ ts)) (add_ann parts a)))
     ([] ++ ((before ++ ts) ++ (t ∷ []))) s)
@@ -254,33 +254,33 @@ more_parts : (a : Ann) (xs : Anns) → ReadsPart a → ReadsParts xs → (ts b c
     → SpellsAnn a false b → Rest (xs ≡ no_anns) (Sign sign.Bar ⟫ (λ u. Separated xs sign.Bar false u)) c
     → (parts : Anns) (before : List Lexeme) (s : AnnStack) → IsMore parts ⊎ AreSeveral (more_anns a xs)
     → (rest : List Lexeme) → Clear rest
-    → run (at (part_due parts before s)) (ts ++ rest)
-    ≡ run (at (part_read (union (span (before ++ ts)) (append_anns parts (more_anns a xs))) (before ++ ts) no_anns
+    → read_tokens (at (part_due parts before s)) (ts ++ rest)
+    ≡ read_tokens (at (part_read (union (span (before ++ ts)) (append_anns parts (more_anns a xs))) (before ++ ts) no_anns
     [] s)) rest
 more_parts a xs part others ts b c is ha (inl w) parts before s m rest st =
     let q : List Lexeme = w.front in
     let d : List Lexeme = w.back in
-    let P : List Lexeme → Type 0 = λ x. run (at (part_due parts before s)) (x ++ rest)
-    ≡ run (at (part_read (union (span (before ++ x)) (append_anns parts (more_anns a xs))) (before ++ x) no_anns []
+    let P : List Lexeme → Type 0 = λ x. read_tokens (at (part_due parts before s)) (x ++ rest)
+    ≡ read_tokens (at (part_read (union (span (before ++ x)) (append_anns parts (more_anns a xs))) (before ++ x) no_anns []
     s)) rest in
     subst P (sym (is ∙ ap (λ z. b ++ z) w.all))
-    (ap (run (at (part_due parts before s))) (append_assoc b (q ++ d) rest ∙ ap (λ z. b ++ z) (append_assoc q d rest))
+    (ap (read_tokens (at (part_due parts before s))) (append_assoc b (q ++ d) rest ∙ ap (λ z. b ++ z) (append_assoc q d rest))
     ∙ part b ha parts before s (q ++ (d ++ rest)) (no_bracket_just (kind.Operator sign.Bar) refl q w.left (d ++ rest))
     ∙ token_run (kind.Operator sign.Bar) (part_read a b parts before s)
     (λ x. part_due (add_ann parts a) (before ++ (b ++ x)) s) (λ t. refl) q w.left (d ++ rest)
     ∙ others d w.right (add_ann parts a) (before ++ (b ++ q)) s (inl (add_more parts a)) rest st
-    ∙ ap (λ x. run (at (part_read (union (span ((before ++ (b ++ q)) ++ d)) x) ((before ++ (b ++ q)) ++ d) no_anns []
+    ∙ ap (λ x. read_tokens (at (part_read (union (span ((before ++ (b ++ q)) ++ d)) x) ((before ++ (b ++ q)) ++ d) no_anns []
     s)) rest) (append_more_anns parts a xs)
-    ∙ ap (λ x. run (at (part_read (union (span x) (append_anns parts (more_anns a xs))) x no_anns [] s)) rest)
+    ∙ ap (λ x. read_tokens (at (part_read (union (span x) (append_anns parts (more_anns a xs))) x no_anns [] s)) rest)
     (regroup_bars before b q d))
 more_parts a xs part others ts b c is ha (inr (none, i)) parts before s m rest st =
-    let P : List Lexeme → Type 0 = λ x. run (at (part_due parts before s)) (x ++ rest)
-    ≡ run (at (part_read (union (span (before ++ x)) (append_anns parts (more_anns a xs))) (before ++ x) no_anns []
+    let P : List Lexeme → Type 0 = λ x. read_tokens (at (part_due parts before s)) (x ++ rest)
+    ≡ read_tokens (at (part_read (union (span (before ++ x)) (append_anns parts (more_anns a xs))) (before ++ x) no_anns []
     s)) rest in
     subst P (sym (is ∙ ap (λ z. b ++ z) i ∙ append-nil b))
     (part b ha parts before s rest (clear_no_bracket rest st)
     ∙ union_ends a b parts before s (is_more parts xs none m) rest st
-    ∙ ap (λ x. run (at (part_read (union (span (before ++ b)) x) (before ++ b) no_anns [] s)) rest)
+    ∙ ap (λ x. read_tokens (at (part_read (union (span (before ++ b)) x) (before ++ b) no_anns [] s)) rest)
     (add_last parts a ∙ ap (λ x. append_anns parts (more_anns a x)) (sym none)))
   where
     is_more : (parts xs : Anns) → xs ≡ no_anns → IsMore parts ⊎ AreSeveral (more_anns a xs) → IsMore parts
@@ -290,7 +290,7 @@ more_parts a xs part others ts b c is ha (inr (none, i)) parts before s m rest s
 
 reads_union : (p : Place) (xs : Anns) → ReadsParts xs → ReadsAnn (union p xs)
 reads_union p xs parts ts h s rest st = parts ts h.2.1 no_anns [] s (inr h.1) rest st
-    ∙ ap (λ q. run (at (part_read (union q xs) ts no_anns [] s)) rest) (sym h.2.0)
+    ∙ ap (λ q. read_tokens (at (part_read (union q xs) ts no_anns [] s)) rest) (sym h.2.0)
 
 -- ---- arguments
 
@@ -304,18 +304,18 @@ more_arguments : (a : Ann) (xs : Anns) → ReadsAnn a → ReadsArguments xs → 
     → SpellsAnn a true b → Rest (xs ≡ no_anns) (Sign sign.Comma ⟫ (λ u. Separated xs sign.Comma true u)) e
     → (head : Name) (done : Anns) (eaten : List Lexeme) (parts : Anns) (before : List Lexeme) (s : AnnStack)
     → (c : List Lexeme) → Sign sign.RightBracket c → (rest : List Lexeme)
-    → run (at (part_due no_anns [] (ann_inside head done eaten parts before s))) (ts ++ (c ++ rest))
-    ≡ run (at (part_read (applied (span (eaten ++ (ts ++ c))) head (append_anns done (more_anns a xs)))
+    → read_tokens (at (part_due no_anns [] (ann_inside head done eaten parts before s))) (ts ++ (c ++ rest))
+    ≡ read_tokens (at (part_read (applied (span (eaten ++ (ts ++ c))) head (append_anns done (more_anns a xs)))
     (eaten ++ (ts ++ c)) parts before s)) rest
 more_arguments a xs one others ts b e is ha (inl w) head done eaten parts before s c hc rest =
     let q : List Lexeme = w.front in
     let d : List Lexeme = w.back in
-    let P : List Lexeme → Type 0 = λ x. run (at (part_due no_anns [] (ann_inside head done eaten parts before s)))
+    let P : List Lexeme → Type 0 = λ x. read_tokens (at (part_due no_anns [] (ann_inside head done eaten parts before s)))
     (x ++ (c ++ rest))
-    ≡ run (at (part_read (applied (span (eaten ++ (x ++ c))) head (append_anns done (more_anns a xs)))
+    ≡ read_tokens (at (part_read (applied (span (eaten ++ (x ++ c))) head (append_anns done (more_anns a xs)))
     (eaten ++ (x ++ c)) parts before s)) rest in
     subst P (sym (is ∙ ap (λ z. b ++ z) w.all))
-    (ap (run (at (part_due no_anns [] (ann_inside head done eaten parts before s))))
+    (ap (read_tokens (at (part_due no_anns [] (ann_inside head done eaten parts before s))))
     (append_assoc b (q ++ d) (c ++ rest) ∙ ap (λ z. b ++ z) (append_assoc q d (c ++ rest)))
     ∙ one b ha (ann_inside head done eaten parts before s) (q ++ (d ++ (c ++ rest)))
     (clear_just (kind.Operator sign.Comma) (refl, refl) q w.left (d ++ (c ++ rest)))
@@ -323,14 +323,14 @@ more_arguments a xs one others ts b e is ha (inl w) head done eaten parts before
     (λ x. part_due no_anns [] (ann_inside head (add_ann done a) (eaten ++ (b ++ x)) parts before s)) (λ t. refl) q
     w.left (d ++ (c ++ rest))
     ∙ others d w.right head (add_ann done a) (eaten ++ (b ++ q)) parts before s c hc rest
-    ∙ ap (λ x. run (at (part_read (applied (span ((eaten ++ (b ++ q)) ++ (d ++ c))) head x)
+    ∙ ap (λ x. read_tokens (at (part_read (applied (span ((eaten ++ (b ++ q)) ++ (d ++ c))) head x)
     ((eaten ++ (b ++ q)) ++ (d ++ c)) parts before s)) rest) (append_more_anns done a xs)
-    ∙ ap (λ x. run (at (part_read (applied (span x) head (append_anns done (more_anns a xs))) x parts before s)) rest)
+    ∙ ap (λ x. read_tokens (at (part_read (applied (span x) head (append_anns done (more_anns a xs))) x parts before s)) rest)
     (regroup_arguments eaten b q d c))
 more_arguments a xs one others ts b e is ha (inr (none, i)) head done eaten parts before s c hc rest =
-    let P : List Lexeme → Type 0 = λ x. run (at (part_due no_anns [] (ann_inside head done eaten parts before s)))
+    let P : List Lexeme → Type 0 = λ x. read_tokens (at (part_due no_anns [] (ann_inside head done eaten parts before s)))
     (x ++ (c ++ rest))
-    ≡ run (at (part_read (applied (span (eaten ++ (x ++ c))) head (append_anns done (more_anns a xs)))
+    ≡ read_tokens (at (part_read (applied (span (eaten ++ (x ++ c))) head (append_anns done (more_anns a xs)))
     (eaten ++ (x ++ c)) parts before s)) rest in
     subst P (sym (is ∙ ap (λ z. b ++ z) i ∙ append-nil b))
     (one b ha (ann_inside head done eaten parts before s) (c ++ rest)
@@ -338,7 +338,7 @@ more_arguments a xs one others ts b e is ha (inr (none, i)) head done eaten part
     ∙ token_run (kind.Operator sign.RightBracket) (part_read a b no_anns [] (ann_inside head done eaten parts before s))
     (λ x. part_read (applied (span (eaten ++ (b ++ x))) head (add_ann done a)) (eaten ++ (b ++ x)) parts before s)
     (λ t. refl) c hc rest
-    ∙ ap (λ x. run (at (part_read (applied (span (eaten ++ (b ++ c))) head x) (eaten ++ (b ++ c)) parts before s)) rest)
+    ∙ ap (λ x. read_tokens (at (part_read (applied (span (eaten ++ (b ++ c))) head x) (eaten ++ (b ++ c)) parts before s)) rest)
     (add_last done a ∙ ap (λ x. append_anns done (more_anns a x)) (sym none)))
 
 -- ---- every annotation
@@ -346,7 +346,7 @@ more_arguments a xs one others ts b e is ha (inr (none, i)) head done eaten part
 -- the annotation is no union
 part_alone : (a : Ann) → ReadsPart a → (ts : List Lexeme) → SpellsAnn a false ts → (s : AnnStack) (rest : List Lexeme)
     → Clear rest
-    → run (at (part_due no_anns [] s)) (ts ++ rest) ≡ run (at (part_read a ts no_anns [] s)) rest
+    → read_tokens (at (part_due no_anns [] s)) (ts ++ rest) ≡ read_tokens (at (part_read a ts no_anns [] s)) rest
 part_alone a part ts h s rest st = part ts h no_anns [] s rest (clear_no_bracket rest st)
 
 mutual

@@ -19,8 +19,8 @@ use Rattle.pc_grammar.specs.Grammar.Modules.{SpellsLiteral, SpellsParam, SpellsP
 use Rattle.pc_grammar.specs.Grammar.Modules.{SpellsMembers, ClassBody, SpellsClass, SpellsItem, SpellsItems, Header}
 use Rattle.pc_grammar.specs.Grammar.Modules.{OptionalHeader, LastLine, SpellsModule}
 use Rattle.pc_grammar.specs.Machine.Kinds.{Fixed, a_kind, a_form}
-use Rattle.pc_grammar.specs.Machine.States.{Stage, after_future, after_dataclasses, after_headers, Top, ClassStart}
-use Rattle.pc_grammar.specs.Machine.States.{Owner}
+use Rattle.pc_grammar.specs.Machine.States.{HeaderStage, after_future, after_dataclasses, after_headers, Top, ClassStart}
+use Rattle.pc_grammar.specs.Machine.States.{FunctionOwner}
 use Rattle.pc_grammar.specs.Machine.States.{of_module, of_class, DefStart, def_body, in_constant, of_constant, of_field}
 use Rattle.pc_grammar.specs.Machine.States.{of_param, of_return, LiteralContext, default_of_param, default_of_field}
 use Rattle.pc_grammar.specs.Machine.States.{ann_whole, State, fixed, items, importing, item_named, decorator_due}
@@ -30,7 +30,7 @@ use Rattle.pc_grammar.specs.Machine.States.{stuck, go}
 use Rattle.pc_grammar.specs.Machine.States.{on}
 use Rattle.pc_grammar.specs.Machine.Finishing.{add_item, after_def, after_class, param, field}
 use Rattle.pc_grammar.specs.Machine.Lines.{start, module_of, no_top, takes_dataclasses, takes_header, due, params_of}
-use Rattle.pc_grammar.specs.Machine.{turn, at, run, reads, outcome_of}
+use Rattle.pc_grammar.specs.Machine.{transition, at, read_tokens, reads, outcome_of}
 use Rattle.pc_grammar.specs.Fronts.Lines.{is_method}
 use Rattle.pc_grammar.proofs.Runs.{run_go, run_none}
 use Rattle.pc_grammar.proofs.Sequences.{Reads, Any, reads_and, reads_any, reads_just, token_run, to_right, map_right}
@@ -42,28 +42,28 @@ use Rattle.pc_grammar.proofs.CompleteStatements.{reads_suite, reads_stmts}
 
 -- a token whose place is kept, where none is said of it
 reads_place : (k : TokenKind) {H X : Spelling} {s final : State} (next : Place → State)
-    → ((t : Lexeme) → turn s t k ≡ go (next t.place))
+    → ((t : Lexeme) → transition s t k ≡ go (next t.place))
     → ((p : Place) → Reads H X (next p) final) → Reads H (Just k ⟫ X) s final
 reads_place k {s = s} next to r = record {
   over = λ ts w rest g.
       let t : Lexeme = w.left.0 in let q = r t.place in
-      ap (λ x. run (at s) (x ++ rest)) (w.all ∙ ap (λ x. x ++ w.back) w.left.2)
-      ∙ run_go s (next t.place) t (w.back ++ rest) (ap (turn s t) w.left.1 ∙ to t) ∙ q.over w.back w.right rest g;
+      ap (λ x. read_tokens (at s) (x ++ rest)) (w.all ∙ ap (λ x. x ++ w.back) w.left.2)
+      ∙ run_go s (next t.place) t (w.back ++ rest) (ap (transition s t) w.left.1 ∙ to t) ∙ q.over w.back w.right rest g;
 }
 
-reads_form : (form : List ℕ) {s next : State} → ((t : Lexeme) → t.form ≡ form → turn s t kind.Name ≡ go next)
+reads_form : (form : List ℕ) {s next : State} → ((t : Lexeme) → t.form ≡ form → transition s t kind.Name ≡ go next)
     → Reads Any (Named form) s next
 reads_form form {s} {next} to = record {
-  over = λ ts h rest g. ap (λ x. run (at s) (x ++ rest)) h.3
-      ∙ run_go s next h.0 rest (ap (turn s h.0) h.1 ∙ to h.0 h.2);
+  over = λ ts h rest g. ap (λ x. read_tokens (at s) (x ++ rest)) h.3
+      ∙ run_go s next h.0 rest (ap (transition s h.0) h.1 ∙ to h.0 h.2);
 }
 
 reads_form_at : (form : List ℕ) (p : Place) {s : State} (next : Place → State)
-    → ((t : Lexeme) → t.form ≡ form → turn s t kind.Name ≡ go (next t.place)) → Reads Any (NamedAt form p) s (next p)
+    → ((t : Lexeme) → t.form ≡ form → transition s t kind.Name ≡ go (next t.place)) → Reads Any (NamedAt form p) s (next p)
 reads_form_at form p {s} next to = record {
-  over = λ ts h rest g. ap (λ x. run (at s) (x ++ rest)) h.4
-      ∙ run_go s (next h.0.place) h.0 rest (ap (turn s h.0) h.1 ∙ to h.0 h.2)
-      ∙ ap (λ q. run (at (next q)) rest) (sym h.3);
+  over = λ ts h rest g. ap (λ x. read_tokens (at s) (x ++ rest)) h.4
+      ∙ run_go s (next h.0.place) h.0 rest (ap (transition s h.0) h.1 ∙ to h.0 h.2)
+      ∙ ap (λ q. read_tokens (at (next q)) rest) (sym h.3);
 }
 
 -- the last of a list is followed by a comma, or not
@@ -75,7 +75,7 @@ reads_rest {A} {B} {Y} {H} {last} {s} {next} more end = record {
 }
   where
     by_rest : (ts f y : List Lexeme) → ts ≡ f ++ y → (a r : List Lexeme) → f ≡ a ++ r → A a → Rest last B r → Y y
-        → (rest : List Lexeme) → H rest → run (at s) (ts ++ rest) ≡ run (at next) rest
+        → (rest : List Lexeme) → H rest → read_tokens (at s) (ts ++ rest) ≡ read_tokens (at next) rest
     by_rest ts f y is a r fs ha (inl b) hy rest g = more.over ts
         (record {
           front = a;
@@ -96,7 +96,7 @@ reads_rest {A} {B} {Y} {H} {last} {s} {next} more end = record {
 
 -- ---- literals
 
-literal_truth : (b : Bool) (c : LiteralContext) (t : Lexeme) → turn (literal_due c) t (kind.Keyword (truth_word b))
+literal_truth : (b : Bool) (c : LiteralContext) (t : Lexeme) → transition (literal_due c) t (kind.Keyword (truth_word b))
     ≡ go (literal_read c (truth_literal (span (t ∷ [])) b))
 literal_truth true c t = refl
 literal_truth false c t = refl
@@ -104,46 +104,46 @@ literal_truth false c t = refl
 reads_literal : (l : Literal) (c : LiteralContext) → Reads Any (SpellsLiteral l) (literal_due c) (literal_read c l)
 reads_literal (number_literal p digits) c = record {
   over = λ ts (e, (t, tk, d, is)) rest g.
-      ap (λ x. run (at (literal_due c)) (x ++ rest)) is
+      ap (λ x. read_tokens (at (literal_due c)) (x ++ rest)) is
       ∙ run_go (literal_due c) (literal_read c (number_literal (span (t ∷ [])) (digits_of t.text))) t rest
-      (ap (turn (literal_due c) t) tk)
-      ∙ ap (λ x. run (at (literal_read c (number_literal (span (t ∷ [])) x))) rest) (sym d)
-      ∙ ap (λ x. run (at (literal_read c (number_literal x digits))) rest) (sym (e ∙ ap span is));
+      (ap (transition (literal_due c) t) tk)
+      ∙ ap (λ x. read_tokens (at (literal_read c (number_literal (span (t ∷ [])) x))) rest) (sym d)
+      ∙ ap (λ x. read_tokens (at (literal_read c (number_literal x digits))) rest) (sym (e ∙ ap span is));
 }
 reads_literal (negative_literal p digits) c = record {
   over = λ ts (e, w) rest g.
       let t : Lexeme = w.right.0 in
       let s : State = minus_read c w.front in
-      ap (λ x. run (at (literal_due c)) (x ++ rest)) w.all ∙ ap (run (at (literal_due c)))
+      ap (λ x. read_tokens (at (literal_due c)) (x ++ rest)) w.all ∙ ap (read_tokens (at (literal_due c)))
       (append_assoc w.front w.back rest)
       ∙ token_run (kind.Operator sign.Minus) (literal_due c) (λ x. minus_read c x) (λ u. refl) w.front w.left
       (w.back ++ rest)
-      ∙ ap (λ x. run (at s) (x ++ rest)) w.right.3
+      ∙ ap (λ x. read_tokens (at s) (x ++ rest)) w.right.3
       ∙ run_go s (literal_read c (negative_literal (span (w.front ++ (t ∷ []))) (digits_of t.text))) t rest
-      (ap (turn s t) w.right.1)
-      ∙ ap (λ x. run (at (literal_read c (negative_literal (span (w.front ++ (t ∷ []))) x))) rest) (sym w.right.2)
-      ∙ ap (λ x. run (at (literal_read c (negative_literal x digits))) rest)
+      (ap (transition s t) w.right.1)
+      ∙ ap (λ x. read_tokens (at (literal_read c (negative_literal (span (w.front ++ (t ∷ []))) x))) rest) (sym w.right.2)
+      ∙ ap (λ x. read_tokens (at (literal_read c (negative_literal x digits))) rest)
       (sym (e ∙ ap span (w.all ∙ ap (λ x. w.front ++ x) w.right.3)));
 }
 reads_literal (text_literal p characters) c = record {
   over = λ ts (e, (t, tk, d, is)) rest g.
-      ap (λ x. run (at (literal_due c)) (x ++ rest)) is
+      ap (λ x. read_tokens (at (literal_due c)) (x ++ rest)) is
       ∙ run_go (literal_due c) (literal_read c (text_literal (span (t ∷ [])) (characters_of t.text))) t rest
-      (ap (turn (literal_due c) t) tk)
-      ∙ ap (λ x. run (at (literal_read c (text_literal (span (t ∷ [])) x))) rest) (sym d)
-      ∙ ap (λ x. run (at (literal_read c (text_literal x characters))) rest) (sym (e ∙ ap span is));
+      (ap (transition (literal_due c) t) tk)
+      ∙ ap (λ x. read_tokens (at (literal_read c (text_literal (span (t ∷ [])) x))) rest) (sym d)
+      ∙ ap (λ x. read_tokens (at (literal_read c (text_literal x characters))) rest) (sym (e ∙ ap span is));
 }
 reads_literal (truth_literal p b) c = record {
   over = λ ts (e, h) rest g.
       token_run (kind.Keyword (truth_word b)) (literal_due c) (λ x. literal_read c (truth_literal (span x) b))
       (literal_truth b c) ts h rest
-      ∙ ap (λ x. run (at (literal_read c (truth_literal x b))) rest) (sym e);
+      ∙ ap (λ x. read_tokens (at (literal_read c (truth_literal x b))) rest) (sym e);
 }
 reads_literal (none_literal p) c = record {
   over = λ ts (e, h) rest g.
       token_run (kind.Keyword word.None) (literal_due c) (λ x. literal_read c (none_literal (span x))) (λ t. refl) ts h
       rest
-      ∙ ap (λ x. run (at (literal_read c (none_literal x))) rest) (sym e);
+      ∙ ap (λ x. read_tokens (at (literal_read c (none_literal x))) rest) (sym e);
 }
 
 -- ---- parameters
@@ -158,12 +158,12 @@ after_param true d ps = params_read d ps
 after_param false d ps = param_due d ps
 
 name_end : (last : Bool) (d : DefStart) (ps : List Param) (n : Name) (t : Lexeme)
-    → turn (param_named d ps n) t (end_kind last) ≡ go (after_param last d (ps ++ (param n None None ∷ [])))
+    → transition (param_named d ps n) t (end_kind last) ≡ go (after_param last d (ps ++ (param n None None ∷ [])))
 name_end true d ps n t = refl
 name_end false d ps n t = refl
 
 literal_end : (last : Bool) (d : DefStart) (ps : List Param) (n : Name) (a : Option Ann) (l : Literal) (t : Lexeme)
-    → turn (literal_read (default_of_param d ps n a) l) t (end_kind last)
+    → transition (literal_read (default_of_param d ps n a) l) t (end_kind last)
     ≡ go (after_param last d (ps ++ (param n a (Some l) ∷ [])))
 literal_end true d ps n a l t = refl
 literal_end false d ps n a l t = refl
@@ -225,12 +225,12 @@ reads_params (p ∷ ps) d before {H} {X} {final} r = reads_rest
 
 -- the form of a fixed name is compared
 fixed_form : (f : List ℕ) (ws : List Fixed) (next : State) (t : Lexeme) → t.form ≡ f → bytes_eq f f ≡ true
-    → turn (fixed (a_form f) ws next) t kind.Name ≡ go (due ws next)
+    → transition (fixed (a_form f) ws next) t kind.Name ≡ go (due ws next)
 fixed_form f ws next t e same = ap (λ z. on (bytes_eq z f) (due ws next) stuck) e
     ∙ ap (λ z. on z (due ws next) stuck) same
 
 -- from the parenthesis on
-reads_parameters : (owner : Owner) (d : DefStart) (ps : List Param) {H X : Spelling} {final : State}
+reads_parameters : (owner : FunctionOwner) (d : DefStart) (ps : List Param) {H X : Spelling} {final : State}
     → Reads H X (params_read d ps) final → Reads H (Sign sign.LeftParenthesis ⟫ Parameters (is_method owner) ps ⟫ Sign
     sign.RightParenthesis ⟫ X) (params_of owner d) final
 reads_parameters (of_module top) d ps r = reads_and (reads_just (kind.Operator sign.LeftParenthesis) (λ t. refl))
@@ -260,7 +260,7 @@ abbrev DefRest : Bool → FuncDef → Spelling
 DefRest method f = IsName f.name ⟫ Sign sign.LeftParenthesis ⟫ Parameters method f.params ⟫ Sign sign.RightParenthesis
     ⟫ Maybe (λ a. Sign sign.Arrow ⟫ Annotation a) f.returns ⟫ Suite (SpellsStmts f.body)
 
-reads_def : (owner : Owner) (first : Place) (f : FuncDef) {H : Spelling}
+reads_def : (owner : FunctionOwner) (first : Place) (f : FuncDef) {H : Spelling}
     → Reads H (DefRest (is_method owner) f) (def_due owner first) (after_def owner first f)
 reads_def owner first f =
     reads_and (reads_name_as f.name (λ m. params_of owner (record { owner = owner; first = first; name = m }))
@@ -324,7 +324,7 @@ reads_base top first decorator n (Some b) ms = reads_map (λ ts w. map_right shi
     (reads_and (reads_just kind.Indent (λ t. refl)) (reads_body
     (record { top = top; first = first; decorator = decorator; name = n; base = Some b }) ms)))))))
 
-reads_class : (stage : Stage) (top : Top) (first : Place) (c : ClassDef) {H : Spelling}
+reads_class : (stage : HeaderStage) (top : Top) (first : Place) (c : ClassDef) {H : Spelling}
     → Reads H (Begins first (SpellsClass c)) (items stage top) (items after_headers (add_item top (class_item first c)))
 reads_class stage top first c = begins_token first (kind.Operator sign.At) (λ q. decorator_due q top) (λ t. refl)
     (reads_and (reads_form_at (codes "dataclass") c.decorator (λ q. fixed (a_kind kind.Newline)
@@ -344,7 +344,7 @@ reads_class stage top first c = begins_token first (kind.Operator sign.At) (λ q
 
 -- ---- the module
 
-reads_constant : (stage : Stage) (top : Top) (first : Place) (n : Name) (a : Option Ann) (e : Expr) {H : Spelling}
+reads_constant : (stage : HeaderStage) (top : Top) (first : Place) (n : Name) (a : Option Ann) (e : Expr) {H : Spelling}
     → Reads H (SpellsItem (constant_item first (record { name = n; annotation = a; value = e }))) (items stage top)
     (items after_headers (add_item top (constant_item first (record { name = n; annotation = a; value = e }))))
 reads_constant stage top first n a e {H = H} = record {
@@ -355,7 +355,7 @@ reads_constant stage top first n a e {H = H} = record {
       let r = by_annotation a in
       r.over ts w rest g
       ∙ ap (λ q.
-      run
+      read_tokens
       (at (items after_headers (add_item top (constant_item q (record { name = n; annotation = a; value = e })))))
       rest) place;
 }
@@ -371,14 +371,14 @@ reads_constant stage top first n a e {H = H} = record {
         (annotation_then x (of_constant n top) (kind.Operator sign.Equal) (refl, refl) (λ ts t. refl)
         (expression_last e (in_constant n (Some x) top) kind.Newline (omega arith) (λ n' ts t. refl)))))
 
-reads_item : (stage : Stage) (top : Top) (i : Item) {H : Spelling}
+reads_item : (stage : HeaderStage) (top : Top) (i : Item) {H : Spelling}
     → Reads H (SpellsItem i) (items stage top) (items after_headers (add_item top i))
 reads_item stage top (constant_item first c) = reads_constant stage top first c.name c.annotation c.value
 reads_item stage top (class_item first c) = reads_class stage top first c
 reads_item stage top (def_item first f) = begins_token first (kind.Keyword word.Def) (λ q. def_due (of_module top) q)
     (λ t. refl) (reads_def (of_module top) first f)
 
-main_opens : (stage : Stage) (top : Top) (main : Place) {H : Spelling} → Reads H (LastLine main) (items stage top)
+main_opens : (stage : HeaderStage) (top : Top) (main : Place) {H : Spelling} → Reads H (LastLine main) (items stage top)
     (ended (module_of top main))
 main_opens stage top main = reads_and (reads_form_at (codes "main") main
     (λ q. item_named (record { place = q; text = codes "main" }) top)
@@ -390,15 +390,15 @@ main_opens stage top main = reads_and (reads_form_at (codes "main") main
 abbrev with_items : Top → List Item → Top
 with_items top is = record top { items = top.items ++ is }
 
-reads_items_of : (is : List Item) (stage : Stage) (top : Top) (main : Place) {H : Spelling}
+reads_items_of : (is : List Item) (stage : HeaderStage) (top : Top) (main : Place) {H : Spelling}
     → Reads H (SpellsItems is ⟫ LastLine main) (items stage top) (ended (module_of (with_items top is) main))
 reads_items_of [] stage top main = reads_map no_front
     (reads_to (ended (module_of (with_items top []) main)) (λ rest g.
-    ap (λ z. run (at (ended (module_of (record top { items = z }) main))) rest) (sym (append-nil top.items)))
+    ap (λ z. read_tokens (at (ended (module_of (record top { items = z }) main))) rest) (sym (append-nil top.items)))
     (main_opens stage top main))
 reads_items_of (i ∷ is) stage top main = reads_map shift_right (reads_and (reads_item stage top i)
     (reads_to (ended (module_of (with_items top (i ∷ is)) main))
-    (λ rest g. ap (λ z. run (at (ended (module_of (record top { items = z }) main))) rest)
+    (λ rest g. ap (λ z. read_tokens (at (ended (module_of (record top { items = z }) main))) rest)
     (append_assoc top.items (i ∷ []) is))
     (reads_items_of is after_headers (add_item top i) main)))
 
@@ -429,8 +429,8 @@ abbrev any_line : Bool → State
 any_line d = fixed (a_kind (kind.Keyword word.Import)) (a_form (codes "Any") ∷ a_kind kind.Newline ∷ [])
     (items after_headers (top_of d true))
 
-reads_typing : (a d : Bool) (stage : Stage) → takes_header stage ≡ true → {H X : Spelling} {final : State}
-    → ((later : Stage) → Reads H X (items later (top_of d a)) final)
+reads_typing : (a d : Bool) (stage : HeaderStage) → takes_header stage ≡ true → {H X : Spelling} {final : State}
+    → ((later : HeaderStage) → Reads H X (items later (top_of d a)) final)
     → Reads H (OptionalHeader a (codes "typing") (codes "Any") ⟫ X) (items stage (top_of d false)) final
 reads_typing false d stage takes r = reads_map no_front (r stage)
 reads_typing true d stage takes r = reads_map (header_first (codes "typing") (codes "Any"))
@@ -442,7 +442,7 @@ reads_typing true d stage takes r = reads_map (header_first (codes "typing") (co
     (reads_import (codes "Any") refl (r after_headers))))
 
 reads_headers : (d a : Bool) {H X : Spelling} {final : State}
-    → ((later : Stage) → Reads H X (items later (top_of d a)) final)
+    → ((later : HeaderStage) → Reads H X (items later (top_of d a)) final)
     → Reads H (OptionalHeader d (codes "dataclasses") (codes "dataclass") ⟫ OptionalHeader a (codes "typing")
     (codes "Any") ⟫ X) (items after_future no_top) final
 reads_headers false a r = reads_map no_front (reads_typing a false after_future refl r)
@@ -465,7 +465,7 @@ reads_module m = reads_map (header_first (codes "__future__") (codes "annotation
 -- A module that tokens spell is read.
 pub spelled_reads : (m : Module) (ts : List Lexeme) → SpellsModule m ts → outcome_of ts ≡ reads m
 spelled_reads m ts h = let r = reads_module m in
-    ap (run (at start)) (sym (append-nil ts)) ∙ r.over ts h [] tt ∙ run_none (ended m)
+    ap (read_tokens (at start)) (sym (append-nil ts)) ∙ r.over ts h [] tt ∙ run_none (ended m)
 
 -- A list of tokens spells at most one module.
 pub spells_one : (m n : Module) (ts : List Lexeme) → SpellsModule m ts → SpellsModule n ts → m ≡ n

@@ -12,11 +12,11 @@ use Rattle.pc_tree.specs.Tree.{to_index, Stmt, pass, breaks, continues, returns,
 use Rattle.pc_tree.specs.Tree.{while_loop, for_loop, conditional, Stmts, no_stmts, more_stmts, Branches, no_branches}
 use Rattle.pc_tree.specs.Tree.{more_branches}
 use Rattle.pc_grammar.specs.Grammar.{Spelling, Sequence, ◌⟫◌, Begins, Just, Word, IsName, Nothing, Rest, first_place}
-use Rattle.pc_grammar.specs.Grammar.{name_at}
+use Rattle.pc_grammar.specs.Grammar.{name_of_token}
 use Rattle.pc_grammar.specs.Grammar.Expressions.{own_level, Spells, Expression, SpellsTarget}
 use Rattle.pc_grammar.specs.Grammar.Annotations.{Annotation}
 use Rattle.pc_grammar.specs.Grammar.Statements.{Suite, SpellsStmt, SpellsStmts, SpellsBranches}
-use Rattle.pc_grammar.specs.Machine.Kinds.{a_kind, same_kind, start_of, leads_other, lead_of}
+use Rattle.pc_grammar.specs.Machine.Kinds.{a_kind, same_kind, operand_start, leads_other, lead_of}
 use Rattle.pc_grammar.specs.Machine.States.{Block, Site, assigned, annotated_value, returned, asserted, asserted_with}
 use Rattle.pc_grammar.specs.Machine.States.{looping, iterating, branching, while_body, for_body, branch_body, else_body}
 use Rattle.pc_grammar.specs.Machine.States.{ExpressionPosition, in_line, in_statement, AnnotationPosition, of_local}
@@ -27,7 +27,7 @@ use Rattle.pc_grammar.specs.Machine.States.{part_read, operand, have, go, on}
 use Rattle.pc_grammar.specs.Machine.Finishing.{add_stmt, add_branch, suite_of, after_stmt, nested_in, after_suite}
 use Rattle.pc_grammar.specs.Machine.Expressions.{tightness}
 use Rattle.pc_grammar.specs.Machine.Lines.{stmts_turn, lead_turn, closed_branches}
-use Rattle.pc_grammar.specs.Machine.{turn, at, run}
+use Rattle.pc_grammar.specs.Machine.{transition, at, read_tokens}
 use Rattle.pc_grammar.proofs.Runs.{run_go, run_same, run_none}
 use Rattle.pc_grammar.proofs.Sequences.{Reads, Any, reads_then, reads_and, reads_any, reads_nothing, reads_just}
 use Rattle.pc_grammar.proofs.Sequences.{token_run}
@@ -74,7 +74,7 @@ reads_map f r = record { over = λ ts h rest g. r.over ts (f ts h) rest g }
 
 -- to a state that is as good
 pub reads_to : {G A : Spelling} {s next : State} (other : State)
-    → ((rest : List Lexeme) → G rest → run (at next) rest ≡ run (at other) rest)
+    → ((rest : List Lexeme) → G rest → read_tokens (at next) rest ≡ read_tokens (at other) rest)
     → Reads G A s next → Reads G A s other
 reads_to other same r = record { over = λ ts h rest g. r.over ts h rest g ∙ same rest g }
 
@@ -85,27 +85,27 @@ pub shift_right : {A B C : Spelling} (ts : List Lexeme) → Sequence (A ⟫ B) C
 shift_right ts h = to_right h
 
 pub reads_name_as : (n : Name) {s : State} (next : Name → State)
-    → ((t : Lexeme) → turn s t kind.Name ≡ go (next (name_at t))) → Reads Any (IsName n) s (next n)
+    → ((t : Lexeme) → transition s t kind.Name ≡ go (next (name_of_token t))) → Reads Any (IsName n) s (next n)
 reads_name_as n {s} next e = record {
-  over = λ ts h rest g. ap (λ x. run (at s) (x ++ rest)) h.3
-      ∙ run_go s (next (name_at h.0)) h.0 rest (ap (turn s h.0) h.1 ∙ e h.0)
-      ∙ ap (λ m. run (at (next m)) rest) (sym h.2);
+  over = λ ts h rest g. ap (λ x. read_tokens (at s) (x ++ rest)) h.3
+      ∙ run_go s (next (name_of_token h.0)) h.0 rest (ap (transition s h.0) h.1 ∙ e h.0)
+      ∙ ap (λ m. read_tokens (at (next m)) rest) (sym h.2);
 }
 
 -- a whole expression, the token after it, and what follows
 pub expression_then : (e : Expr) (c : ExpressionPosition) (k : TokenKind) → tightness k ≤ 1
     → {H X : Spelling} {next final : State}
-    → ((n : ℕ) (ts : List Lexeme) (t : Lexeme) → turn (have 0 (part_at n e ts) (whole c)) t k ≡ go next)
+    → ((n : ℕ) (ts : List Lexeme) (t : Lexeme) → transition (have 0 (part_at n e ts) (whole c)) t k ≡ go next)
     → Reads H X next final → Reads H (Expression e ⟫ Just k ⟫ X) (operand (whole c)) final
 expression_then e c k loose {next = next} to r = record {
   over = λ ts w rest g.
       let a : List Lexeme = w.front in
       let b : List Lexeme = w.right.front in
       let d : List Lexeme = w.right.back in
-      ap (λ x. run (at (operand (whole c))) (x ++ rest)) w.all ∙ ap (run (at (operand (whole c))))
+      ap (λ x. read_tokens (at (operand (whole c))) (x ++ rest)) w.all ∙ ap (read_tokens (at (operand (whole c))))
       (append_assoc a w.back rest)
-      ∙ ap (λ x. run (at (operand (whole c))) (a ++ (x ++ rest))) w.right.all
-      ∙ ap (λ x. run (at (operand (whole c))) (a ++ x)) (append_assoc b d rest)
+      ∙ ap (λ x. read_tokens (at (operand (whole c))) (a ++ (x ++ rest))) w.right.all
+      ∙ ap (λ x. read_tokens (at (operand (whole c))) (a ++ x)) (append_assoc b d rest)
       ∙ reads_expression e a w.left (whole c) refl (b ++ (d ++ rest)) (stops_just k 1 loose b w.right.left (d ++ rest))
       ∙ token_run k (have 0 (part_at w.left.0 e a) (whole c)) (λ x. next) (to w.left.0 a) b w.right.left (d ++ rest)
       ∙ r.over d w.right.right rest g;
@@ -113,13 +113,13 @@ expression_then e c k loose {next = next} to r = record {
 
 -- and at the end
 pub expression_last : (e : Expr) (c : ExpressionPosition) (k : TokenKind) → tightness k ≤ 1 → {next : State}
-    → ((n : ℕ) (ts : List Lexeme) (t : Lexeme) → turn (have 0 (part_at n e ts) (whole c)) t k ≡ go next)
+    → ((n : ℕ) (ts : List Lexeme) (t : Lexeme) → transition (have 0 (part_at n e ts) (whole c)) t k ≡ go next)
     → {H : Spelling} → Reads H (Expression e ⟫ Just k) (operand (whole c)) next
 expression_last e c k loose {next = next} to = record {
   over = λ ts w rest g.
       let a : List Lexeme = w.front in
       let b : List Lexeme = w.back in
-      ap (λ x. run (at (operand (whole c))) (x ++ rest)) w.all ∙ ap (run (at (operand (whole c))))
+      ap (λ x. read_tokens (at (operand (whole c))) (x ++ rest)) w.all ∙ ap (read_tokens (at (operand (whole c))))
       (append_assoc a b rest)
       ∙ reads_expression e a w.left (whole c) refl (b ++ rest) (stops_just k 1 loose b w.right rest)
       ∙ token_run k (have 0 (part_at w.left.0 e a) (whole c)) (λ x. next) (to w.left.0 a) b w.right rest;
@@ -128,7 +128,7 @@ expression_last e c k loose {next = next} to = record {
 -- a whole annotation, the token after it, and what follows
 pub annotation_then : (a : Ann) (c : AnnotationPosition) (k : TokenKind) → IsClear k
     → {H X : Spelling} {next final : State}
-    → ((ts : List Lexeme) (t : Lexeme) → turn (part_read a ts no_anns [] (ann_whole c)) t k ≡ go next)
+    → ((ts : List Lexeme) (t : Lexeme) → transition (part_read a ts no_anns [] (ann_whole c)) t k ≡ go next)
     → Reads H X next final → Reads H (Annotation a ⟫ Just k ⟫ X) (part_due no_anns [] (ann_whole c)) final
 annotation_then a c k clear {next = next} to r = record {
   over = λ ts w rest g.
@@ -136,38 +136,38 @@ annotation_then a c k clear {next = next} to r = record {
       let b : List Lexeme = w.right.front in
       let d : List Lexeme = w.right.back in
       let s : State = part_due no_anns [] (ann_whole c) in
-      ap (λ x. run (at s) (x ++ rest)) w.all ∙ ap (run (at s)) (append_assoc f w.back rest)
-      ∙ ap (λ x. run (at s) (f ++ (x ++ rest))) w.right.all ∙ ap (λ x. run (at s) (f ++ x)) (append_assoc b d rest)
+      ap (λ x. read_tokens (at s) (x ++ rest)) w.all ∙ ap (read_tokens (at s)) (append_assoc f w.back rest)
+      ∙ ap (λ x. read_tokens (at s) (f ++ (x ++ rest))) w.right.all ∙ ap (λ x. read_tokens (at s) (f ++ x)) (append_assoc b d rest)
       ∙ reads_ann a f w.left (ann_whole c) (b ++ (d ++ rest)) (clear_just k clear b w.right.left (d ++ rest))
       ∙ token_run k (part_read a f no_anns [] (ann_whole c)) (λ x. next) (to f) b w.right.left (d ++ rest)
       ∙ r.over d w.right.right rest g;
 }
 
 pub annotation_last : (a : Ann) (c : AnnotationPosition) (k : TokenKind) → IsClear k → {next : State}
-    → ((ts : List Lexeme) (t : Lexeme) → turn (part_read a ts no_anns [] (ann_whole c)) t k ≡ go next)
+    → ((ts : List Lexeme) (t : Lexeme) → transition (part_read a ts no_anns [] (ann_whole c)) t k ≡ go next)
     → {H : Spelling} → Reads H (Annotation a ⟫ Just k) (part_due no_anns [] (ann_whole c)) next
 annotation_last a c k clear {next = next} to = record {
   over = λ ts w rest g.
       let f : List Lexeme = w.front in
       let b : List Lexeme = w.back in
       let s : State = part_due no_anns [] (ann_whole c) in
-      ap (λ x. run (at s) (x ++ rest)) w.all ∙ ap (run (at s)) (append_assoc f b rest)
+      ap (λ x. read_tokens (at s) (x ++ rest)) w.all ∙ ap (read_tokens (at s)) (append_assoc f b rest)
       ∙ reads_ann a f w.left (ann_whole c) (b ++ rest) (clear_just k clear b w.right rest)
       ∙ token_run k (part_read a f no_anns [] (ann_whole c)) (λ x. next) (to f) b w.right rest;
 }
 
 -- a token that begins a line, whose place is kept
 pub begins_token : (p : Place) (k : TokenKind) {H X : Spelling} {s final : State} (next : Place → State)
-    → ((t : Lexeme) → turn s t k ≡ go (next t.place))
+    → ((t : Lexeme) → transition s t k ≡ go (next t.place))
     → Reads H X (next p) final → Reads H (Begins p (Just k ⟫ X)) s final
 begins_token p k {s = s} next to r = record {
   over = λ ts h rest g.
       let w = h.1 in
       let t : Lexeme = w.left.0 in
       let place : t.place ≡ p = sym (h.0 ∙ ap first_place (w.all ∙ ap (λ x. x ++ w.back) w.left.2)) in
-      ap (λ x. run (at s) (x ++ rest)) (w.all ∙ ap (λ x. x ++ w.back) w.left.2)
-      ∙ run_go s (next t.place) t (w.back ++ rest) (ap (turn s t) w.left.1 ∙ to t)
-      ∙ ap (λ q. run (at (next q)) (w.back ++ rest)) place
+      ap (λ x. read_tokens (at s) (x ++ rest)) (w.all ∙ ap (λ x. x ++ w.back) w.left.2)
+      ∙ run_go s (next t.place) t (w.back ++ rest) (ap (transition s t) w.left.1 ∙ to t)
+      ∙ ap (λ q. read_tokens (at (next q)) (w.back ++ rest)) place
       ∙ r.over w.back w.right rest g;
 }
 
@@ -241,8 +241,8 @@ else_state bs site = fixed (a_kind (kind.Operator sign.Colon)) (a_kind kind.Newl
     (stmts no_stmts (nested_in site (else_body bs)))
 
 -- An `if` that nothing goes on with is as good as a statement.
-pub branch_run : (bs : Branches) (site : Site) (rest : List Lexeme) → Closed rest → run (at (after_branch bs site)) rest
-    ≡ run (at (stmts (closed_branches bs site) site.block)) rest
+pub branch_run : (bs : Branches) (site : Site) (rest : List Lexeme) → Closed rest → read_tokens (at (after_branch bs site)) rest
+    ≡ read_tokens (at (stmts (closed_branches bs site) site.block)) rest
 branch_run bs site [] h = run_none _ ∙ sym (run_none _)
 branch_run bs site (t ∷ rest) h = run_same _ _ t rest
     (ap (λ b. on b (operand (whole (in_statement (branching bs) site)))
@@ -252,7 +252,7 @@ branch_run bs site (t ∷ rest) h = run_same _ _ t rest
 
 -- ---- lines that begin with an expression
 
-lead_start : (k : TokenKind) → IsStart (start_of k) → lead_of k ≡ leads_other
+lead_start : (k : TokenKind) → IsStart (operand_start k) → lead_of k ≡ leads_other
 lead_start (kind.Keyword word.Pass) h = absurd h
 lead_start (kind.Keyword word.Break) h = absurd h
 lead_start (kind.Keyword word.Continue) h = absurd h
@@ -267,8 +267,8 @@ lead_start _ h = refl
 abbrev pub site_at : Stmts → Block → Place → Site
 site_at done b p = record { first = p; done = done; block = b }
 
-pub line_run : (done : Stmts) (b : Block) (ts : List Lexeme) → Starts ts → run (at (stmts done b)) ts
-    ≡ run (at (operand (whole (in_line done b)))) ts
+pub line_run : (done : Stmts) (b : Block) (ts : List Lexeme) → Starts ts → read_tokens (at (stmts done b)) ts
+    ≡ read_tokens (at (operand (whole (in_line done b)))) ts
 line_run done b [] h = absurd h
 line_run done b (t ∷ ts) h = run_same _ _ t ts (ap (lead_turn (site_at done b t.place) t t.kind) (lead_start t.kind h))
 
@@ -278,7 +278,7 @@ first_place_append (t ∷ a) b h = refl
 
 -- a line that is one expression
 line_last : (p : Place) (e : Expr) (done : Stmts) (b : Block) (k : TokenKind) → tightness k ≤ 1 → (next : Place → State)
-    → ((n : ℕ) (ts : List Lexeme) (t : Lexeme) → turn (have 0 (part_at n e ts) (whole (in_line done b))) t k
+    → ((n : ℕ) (ts : List Lexeme) (t : Lexeme) → transition (have 0 (part_at n e ts) (whole (in_line done b))) t k
     ≡ go (next (first_place ts)))
     → {H : Spelling} → Reads H (Begins p (Expression e ⟫ Just k)) (stmts done b) (next p)
 line_last p e done b k loose next to = record {
@@ -289,17 +289,17 @@ line_last p e done b k loose next to = record {
       let s : State = operand (whole (in_line done b)) in
       let st : Starts a = starts_operand 0 e a w.left in
       line_run done b (ts ++ rest) (starts_append ts rest (starts_first w st))
-      ∙ ap (λ x. run (at s) (x ++ rest)) w.all ∙ ap (run (at s)) (append_assoc a d rest)
+      ∙ ap (λ x. read_tokens (at s) (x ++ rest)) w.all ∙ ap (read_tokens (at s)) (append_assoc a d rest)
       ∙ reads_expression e a w.left (whole (in_line done b)) refl (d ++ rest) (stops_just k 1 loose d w.right rest)
       ∙ token_run k (have 0 (part_at w.left.0 e a) (whole (in_line done b))) (λ x. next (first_place a)) (to w.left.0 a)
       d w.right rest
-      ∙ ap (λ q. run (at (next q)) rest) (sym (h.0 ∙ ap first_place w.all ∙ first_place_append a d st));
+      ∙ ap (λ q. read_tokens (at (next q)) rest) (sym (h.0 ∙ ap first_place w.all ∙ first_place_append a d st));
 }
 
 -- a line that begins with a node in no parentheses
 line_plain : (p : Place) (m : Expr) (done : Stmts) (b : Block) (k : TokenKind) → tightness k ≤ own_level m + 1
     → {H X : Spelling} (next : Place → State) {final : State}
-    → ((ts : List Lexeme) (t : Lexeme) → turn (have (own_level m) (part_at 0 m ts) (whole (in_line done b))) t k
+    → ((ts : List Lexeme) (t : Lexeme) → transition (have (own_level m) (part_at 0 m ts) (whole (in_line done b))) t k
     ≡ go (next (first_place ts)))
     → Reads H X (next p) final → Reads H (Begins p ((λ ts. Spells m ts) ⟫ Just k ⟫ X)) (stmts done b) final
 line_plain p m done b k loose next to r = record {
@@ -311,13 +311,13 @@ line_plain p m done b k loose next to r = record {
       let s : State = operand (whole (in_line done b)) in
       let st : Starts a = starts m a w.left in
       line_run done b (ts ++ rest) (starts_append ts rest (starts_first w st))
-      ∙ ap (λ x. run (at s) (x ++ rest)) w.all ∙ ap (run (at s)) (append_assoc a w.back rest)
-      ∙ ap (λ x. run (at s) (a ++ (x ++ rest))) w.right.all ∙ ap (λ x. run (at s) (a ++ x)) (append_assoc c d rest)
+      ∙ ap (λ x. read_tokens (at s) (x ++ rest)) w.all ∙ ap (read_tokens (at s)) (append_assoc a w.back rest)
+      ∙ ap (λ x. read_tokens (at s) (a ++ (x ++ rest))) w.right.all ∙ ap (λ x. read_tokens (at s) (a ++ x)) (append_assoc c d rest)
       ∙ reads_plain m a w.left (whole (in_line done b)) (omega arith) (c ++ (d ++ rest))
       (stops_just k (own_level m + 1) loose c w.right.left (d ++ rest))
       ∙ token_run k (have (own_level m) (part_at 0 m a) (whole (in_line done b))) (λ x. next (first_place a)) (to a) c
       w.right.left (d ++ rest)
-      ∙ ap (λ q. run (at (next q)) (d ++ rest)) (sym (h.0 ∙ ap first_place w.all ∙ first_place_append a w.back st))
+      ∙ ap (λ q. read_tokens (at (next q)) (d ++ rest)) (sym (h.0 ∙ ap first_place w.all ∙ first_place_append a w.back st))
       ∙ r.over d w.right.right rest g;
 }
 
@@ -340,15 +340,15 @@ reads_continue p done b = begins_token p (kind.Keyword word.Continue) (λ q. _) 
 
 -- from a state that takes what begins an operand as the other does
 reads_start : {G A : Spelling} {s other next : State} → ((ts : List Lexeme) → A ts → Starts ts)
-    → ((ts : List Lexeme) → Starts ts → run (at s) ts ≡ run (at other) ts)
+    → ((ts : List Lexeme) → Starts ts → read_tokens (at s) ts ≡ read_tokens (at other) ts)
     → Reads G A other next → Reads G A s next
 reads_start starts_a same r = record {
   over = λ ts h rest g. same (ts ++ rest) (starts_append ts rest (starts_a ts h))
       ∙ r.over ts h rest g;
 }
 
-return_run : (site : Site) (ts : List Lexeme) → Starts ts → run (at (return_due site)) ts
-    ≡ run (at (operand (whole (in_statement returned site)))) ts
+return_run : (site : Site) (ts : List Lexeme) → Starts ts → read_tokens (at (return_due site)) ts
+    ≡ read_tokens (at (operand (whole (in_statement returned site)))) ts
 return_run site ts h = starts_run (return_due site) (operand (whole (in_statement returned site)))
     (λ t. after_stmt site (returns site.first None)) kind.Newline refl (λ t k. refl) ts h
 
@@ -431,18 +431,18 @@ no_stmts_read done b = record { over = λ ts h rest g. absurd h }
 more_stmts_read : (s : Stmt) (ss : Stmts) → ReadsStmt s → ReadsStmts ss
     → (done : Stmts) (b : Block) (ts c d : List Lexeme) → ts ≡ c ++ d → SpellsStmt s c
     → Rest (ss ≡ no_stmts) (λ u. SpellsStmts ss u) d
-    → (rest : List Lexeme) → Closed rest → run (at (stmts done b)) (ts ++ rest)
-    ≡ run (at (stmts (append_stmts done (more_stmts s ss)) b)) rest
+    → (rest : List Lexeme) → Closed rest → read_tokens (at (stmts done b)) (ts ++ rest)
+    ≡ read_tokens (at (stmts (append_stmts done (more_stmts s ss)) b)) rest
 more_stmts_read s ss one others done b ts c d is hs (inl h) rest g =
     let first = one done b in
     let second = others (add_stmt done s) b in
-    ap (λ x. run (at (stmts done b)) (x ++ rest)) is ∙ ap (run (at (stmts done b))) (append_assoc c d rest)
+    ap (λ x. read_tokens (at (stmts done b)) (x ++ rest)) is ∙ ap (read_tokens (at (stmts done b))) (append_assoc c d rest)
     ∙ first.over c hs (d ++ rest) (closed_stmts ss d h rest) ∙ second.over d h rest g
-    ∙ ap (λ x. run (at (stmts x b)) rest) (append_more_stmts done s ss)
+    ∙ ap (λ x. read_tokens (at (stmts x b)) rest) (append_more_stmts done s ss)
 more_stmts_read s ss one others done b ts c d is hs (inr (none, i)) rest g =
     let first = one done b in
-    ap (λ x. run (at (stmts done b)) (x ++ rest)) (is ∙ ap (λ x. c ++ x) i ∙ append-nil c) ∙ first.over c hs rest g
-    ∙ ap (λ x. run (at (stmts x b)) rest) (sym (append_no_stmts (add_stmt done s)) ∙ append_more_stmts done s no_stmts
+    ap (λ x. read_tokens (at (stmts done b)) (x ++ rest)) (is ∙ ap (λ x. c ++ x) i ∙ append-nil c) ∙ first.over c hs rest g
+    ∙ ap (λ x. read_tokens (at (stmts x b)) rest) (sym (append_no_stmts (add_stmt done s)) ∙ append_more_stmts done s no_stmts
     ∙ ap (λ x. append_stmts done (more_stmts s x)) (sym none))
 
 -- ---- compound statements
@@ -469,7 +469,7 @@ ReadsBranches bs = (before : Branches) (site : Site) → Reads Any (SpellsBranch
 
 no_branches_read : ReadsBranches no_branches
 no_branches_read before site = reads_to (after_branch (append_branches before no_branches) site)
-    (λ rest g. ap (λ x. run (at (after_branch x site)) rest) (sym (append_no_branches before))) reads_nothing
+    (λ rest g. ap (λ x. read_tokens (at (after_branch x site)) rest) (sym (append_no_branches before))) reads_nothing
 
 more_branches_read : (c : Expr) (body : Stmts) (bs : Branches) → ReadsStmts body → ReadsBranches bs
     → ReadsBranches (more_branches c body bs)
@@ -478,13 +478,13 @@ more_branches_read c body bs r others before site = reads_and (reads_just (kind.
     (kind.Operator sign.Colon) (omega arith) (λ n ts t. refl)
     (reads_and (reads_suite body r (nested_in site (branch_body before c)))
     (reads_to (after_branch (append_branches before (more_branches c body bs)) site)
-    (λ rest g. ap (λ x. run (at (after_branch x site)) rest) (append_more_branches before c body bs))
+    (λ rest g. ap (λ x. read_tokens (at (after_branch x site)) rest) (append_more_branches before c body bs))
     (others (add_branch before c body) site)))))
 
 -- `else`, or nothing
 otherwise_read : (o : Stmts) → ReadsStmts o → (bs : Branches) (site : Site) (ts : List Lexeme)
     → Rest (o ≡ no_stmts) (Word word.Else ⟫ Suite (λ u. SpellsStmts o u)) ts → (rest : List Lexeme) → Closed rest
-    → run (at (after_branch bs site)) (ts ++ rest) ≡ run (at (after_stmt site (conditional site.first bs o))) rest
+    → read_tokens (at (after_branch bs site)) (ts ++ rest) ≡ read_tokens (at (after_stmt site (conditional site.first bs o))) rest
 otherwise_read o r bs site ts (inl w) rest g =
     let all : Reads Any (Word word.Else ⟫ Suite (λ u. SpellsStmts o u)) (after_branch bs site)
     (after_stmt site (conditional site.first bs o))
@@ -493,8 +493,8 @@ otherwise_read o r bs site ts (inl w) rest g =
     (reads_suite o r (nested_in site (else_body bs)))) in
     all.over ts w rest tt
 otherwise_read o r bs site ts (inr (none, i)) rest g =
-    ap (λ x. run (at (after_branch bs site)) (x ++ rest)) i ∙ branch_run bs site rest g
-    ∙ ap (λ x. run (at (after_stmt site (conditional site.first bs x))) rest) (sym none)
+    ap (λ x. read_tokens (at (after_branch bs site)) (x ++ rest)) i ∙ branch_run bs site rest g
+    ∙ ap (λ x. read_tokens (at (after_stmt site (conditional site.first bs x))) rest) (sym none)
 
 reads_conditional : (p : Place) (c : Expr) (body : Stmts) (bs : Branches) (o : Stmts) → ReadsStmts body
     → ReadsBranches bs → ReadsStmts o → ReadsStmt (conditional p (more_branches c body bs) o)

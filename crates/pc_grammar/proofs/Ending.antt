@@ -10,12 +10,12 @@ use Rattle.pc_token.specs.Lexeme.{Lexeme}
 use Rattle.pc_tree.specs.Tree.{Name, Expr, Ann, Anns, Stmt, pass, Stmts, no_stmts, more_stmts, Param, Member, Module}
 use Rattle.pc_grammar.specs.Grammar.{no_place}
 use Rattle.pc_grammar.specs.Machine.Kinds.{Fixed, a_kind, a_form, is_fixed, kind_number}
-use Rattle.pc_grammar.specs.Machine.States.{Stage, Top, ClassStart, Owner, of_module, of_class, DefStart, DefHead}
+use Rattle.pc_grammar.specs.Machine.States.{HeaderStage, Top, ClassStart, FunctionOwner, of_module, of_class, DefStart, DefHead}
 use Rattle.pc_grammar.specs.Machine.States.{def_body, Nest, while_body, for_body, branch_body, else_body, Block, nested}
 use Rattle.pc_grammar.specs.Machine.States.{Site, Begun, assigned, annotated_value, returned, asserted, asserted_with}
 use Rattle.pc_grammar.specs.Machine.States.{looping, iterating, branching, ExpressionPosition, in_line, in_statement}
 use Rattle.pc_grammar.specs.Machine.States.{in_constant, of_constant, of_field, of_param, of_return, of_local}
-use Rattle.pc_grammar.specs.Machine.States.{LiteralContext, default_of_param, default_of_field, Part, Head, in_tuple}
+use Rattle.pc_grammar.specs.Machine.States.{LiteralContext, default_of_param, default_of_field, Part, BracketPurpose, in_tuple}
 use Rattle.pc_grammar.specs.Machine.States.{in_list, in_call, Stack, whole, joining, applying, grouping, listing}
 use Rattle.pc_grammar.specs.Machine.States.{indexing}
 use Rattle.pc_grammar.specs.Machine.States.{naming, keying, valuing, AnnStack, ann_whole, ann_inside, State, fixed}
@@ -32,7 +32,7 @@ use Rattle.pc_grammar.specs.Machine.Finishing.{add_stmt, suite_of, after_stmt, a
 use Rattle.pc_grammar.specs.Machine.Finishing.{after_nested}
 use Rattle.pc_grammar.specs.Machine.Expressions.{own_of, right_of, prefix_level, tightness, joined, applied}
 use Rattle.pc_grammar.specs.Machine.Lines.{params_of}
-use Rattle.pc_grammar.specs.Machine.{turn, at, reads, run}
+use Rattle.pc_grammar.specs.Machine.{transition, at, reads, read_tokens}
 use Rattle.pc_grammar.proofs.Runs.{run_go, run_none, have_level, join_run, apply_run}
 
 -- a token of this kind
@@ -45,9 +45,9 @@ name_token form = record { kind = kind.Name; place = no_place; text = form; form
 
 -- Some tokens finish a module from here.
 abbrev pub CanEnd : State → Type 0
-CanEnd s = (more : List Lexeme) × (m : Module) × (run (at s) more ≡ reads m)
+CanEnd s = (more : List Lexeme) × (m : Module) × (read_tokens (at s) more ≡ reads m)
 
-via : (s next : State) (t : Lexeme) → turn s t t.kind ≡ go next → CanEnd next → CanEnd s
+via : (s next : State) (t : Lexeme) → transition s t t.kind ≡ go next → CanEnd next → CanEnd s
 via s next t e (more, m, h) = (t ∷ more, m, run_go s next t more e ∙ h)
 
 -- ---- fixed words
@@ -70,7 +70,7 @@ fixed_end w (v ∷ vs) next h = via (fixed w (v ∷ vs) next) (fixed v vs next) 
 ended_end : (m : Module) → CanEnd (ended m)
 ended_end m = ([], m, run_none (ended m))
 
-items_end : (stage : Stage) (top : Top) → CanEnd (items stage top)
+items_end : (stage : HeaderStage) (top : Top) → CanEnd (items stage top)
 items_end stage top = via _ _ (name_token (codes "main")) refl
     (via _ _ (token (kind.Operator sign.LeftParenthesis)) refl (fixed_end _ _ _ (ended_end _)))
 
@@ -81,7 +81,7 @@ members_can : (c : ClassStart) (ms : List Member) → CanEnd (members c ms)
 members_can c [] = via _ _ (token (kind.Keyword word.Pass)) refl (fixed_end _ _ _ (class_end c []))
 members_can c (m ∷ ms) = via _ _ (token kind.Dedent) refl (class_end c (m ∷ ms))
 
-def_end : (owner : Owner) (first : Place) (h : DefHead) (body : Stmts)
+def_end : (owner : FunctionOwner) (first : Place) (h : DefHead) (body : Stmts)
     → CanEnd (after_def owner first (record {
       name = h.start.name;
       params = h.params;
@@ -131,12 +131,12 @@ stmt_end site s = stmts_end _ site.block
 -- a token that goes on with no operand, and what follows
 abbrev HaveEnds : Stack → Type 0
 HaveEnds s = (level : ℕ) (p : Part) → (t : Lexeme) × (more : List Lexeme) × (m : Module) × (tightness t.kind ≡ 0)
-    × (run (at (have level p s)) (t ∷ more) ≡ reads m)
+    × (read_tokens (at (have level p s)) (t ∷ more) ≡ reads m)
 
 ending : (s : Stack) (level : ℕ) (p : Part) (t : Lexeme) (next : State) → tightness t.kind ≡ 0
-    → turn (have level p s) t t.kind ≡ go next → CanEnd next
+    → transition (have level p s) t t.kind ≡ go next → CanEnd next
     → (t : Lexeme) × (more : List Lexeme) × (m : Module) × (tightness t.kind ≡ 0)
-    × (run (at (have level p s)) (t ∷ more) ≡ reads m)
+    × (read_tokens (at (have level p s)) (t ∷ more) ≡ reads m)
 ending s level p t next loose e (more, m, h) = (t, more, m, loose, run_go (have level p s) next t more e ∙ h)
 
 begun_ends : (begun : Begun) (site : Site) → HaveEnds (whole (in_statement begun site))
@@ -163,7 +163,7 @@ name_can s f = via _ _ (token kind.Name) refl (have_can s f 7 _)
 loose : (t : Lexeme) (more : List Lexeme) (level : ℕ) → tightness t.kind ≡ 0 → tightness t.kind ≤ level
 loose t more level e = omega arith
 
-listing_ends : (h : Head) (xs : _) (us : List Lexeme) (s : Stack) → HaveEnds s → HaveEnds (listing h xs us s)
+listing_ends : (h : BracketPurpose) (xs : _) (us : List Lexeme) (s : Stack) → HaveEnds s → HaveEnds (listing h xs us s)
 listing_ends in_tuple xs us s f level p = ending _ level p (token (kind.Operator sign.RightParenthesis)) _ refl refl
     (have_can s f 7 _)
 listing_ends in_list xs us s f level p = ending _ level p (token (kind.Operator sign.RightBracket)) _ refl refl
@@ -212,7 +212,7 @@ operand_end s = name_can s (have_ends s)
 have_end : (level : ℕ) (p : Part) (s : Stack) → CanEnd (have level p s)
 have_end level p s = have_can s (have_ends s) level p
 
-item_end : (h : Head) (xs : _) (us : List Lexeme) (s : Stack) → CanEnd (item_due h xs us s)
+item_end : (h : BracketPurpose) (xs : _) (us : List Lexeme) (s : Stack) → CanEnd (item_due h xs us s)
 item_end in_tuple xs us s = via _ _ (token (kind.Operator sign.RightParenthesis)) refl (have_end 7 _ s)
 item_end in_list xs us s = via _ _ (token (kind.Operator sign.RightBracket)) refl (have_end 7 _ s)
 item_end (in_call e) xs us s = via _ _ (token (kind.Operator sign.RightParenthesis)) refl (have_end 7 _ s)
@@ -248,7 +248,7 @@ literal_end : (c : LiteralContext) (l : _) → CanEnd (literal_read c l)
 literal_end (default_of_param d ps n a) l = via _ _ (token (kind.Operator sign.RightParenthesis)) refl (params_end d _)
 literal_end (default_of_field c ms n a) l = via _ _ (token kind.Newline) refl (members_can c _)
 
-params_of_end : (owner : Owner) (d : DefStart) → CanEnd (params_of owner d)
+params_of_end : (owner : FunctionOwner) (d : DefStart) → CanEnd (params_of owner d)
 params_of_end (of_module top) d = fixed_end _ _ _ (via _ _ (token (kind.Operator sign.RightParenthesis)) refl
     (params_end d _))
 params_of_end (of_class c ms) d = fixed_end _ _ _ (via _ _ (token (kind.Operator sign.RightParenthesis)) refl

@@ -13,10 +13,10 @@ use Rattle.pc_grammar.specs.Machine.Kinds.{Infix, arithmetic, comparison, both, 
 use Rattle.pc_grammar.specs.Machine.Kinds.{identifying, link, follow_of}
 use Rattle.pc_grammar.specs.Machine.States.{Part, minus, denial, Stack, whole, joining, applying, grouping, listing}
 use Rattle.pc_grammar.specs.Machine.States.{indexing, naming, keying, valuing, operand, have, denied, stuck, go, on}
-use Rattle.pc_grammar.specs.Machine.Expressions.{own_of, left_of, right_of, own_of_link, left_of_link, rank}
+use Rattle.pc_grammar.specs.Machine.Expressions.{own_of, left_of, right_of, own_of_link, left_of_link, needed_level}
 use Rattle.pc_grammar.specs.Machine.Expressions.{follow_tightness, Stops, joined, applied, reduce, linked, after_link}
 use Rattle.pc_grammar.specs.Machine.Expressions.{have_turn}
-use Rattle.pc_grammar.specs.Machine.{at, run}
+use Rattle.pc_grammar.specs.Machine.{at, read_tokens}
 use Rattle.pc_grammar.specs.Fronts.Expressions.{SpellsInfix}
 use Rattle.pc_grammar.proofs.Runs.{le_true, own_small, tight}
 use Rattle.pc_grammar.proofs.Sequences.{token_run}
@@ -77,7 +77,7 @@ le_false a b h = by_test (nat_le a b) refl
     by_test false e = refl
 
 -- Where an operand of the operator's own level may stand, nothing is joined.
-pub reduce_keeps : (low own : ℕ) (p : Part) (s : Stack) → rank s ≤ own → own ≤ low → own ≢ 2 → own ≤ 5
+pub reduce_keeps : (low own : ℕ) (p : Part) (s : Stack) → needed_level s ≤ own → own ≤ low → own ≢ 2 → own ≤ 5
     → reduce low p s ≡ (p, s)
 reduce_keeps low own p (joining op l o s) r h two small =
     ap (λ b. if b then reduce low (joined op l o p) s else (p, joining op l o s))
@@ -94,16 +94,16 @@ reduce_keeps low own p (keying es ts s) r h two small = refl
 reduce_keeps low own p (valuing es k ts s) r h two small = refl
 
 -- an operator whose node has the level that the stack needs is taken
-pub link_go : (l : Link) (p : Part) (s : Stack) (t : Lexeme) → rank s ≤ own_of_link l
+pub link_go : (l : Link) (p : Part) (s : Stack) (t : Lexeme) → needed_level s ≤ own_of_link l
     → have_turn (left_of_link l) p s t (link l) ≡ go (linked l t p s)
 link_go l p s t r = tight (left_of_link l) (left_of_link l) _ (omega arith)
     ∙ ap (after_link l t) (reduce_keeps (left_of_link l) (own_of_link l) p s r (link_left l) (link_not_two l)
     (link_small l))
-    ∙ ap (λ b. on b (linked l t p s) stuck) (le_true (rank s) (own_of_link l) r)
+    ∙ ap (λ b. on b (linked l t p s) stuck) (le_true (needed_level s) (own_of_link l) r)
 
-pub op_run : (op : Infix) (o : List Lexeme) → SpellsInfix op o → (p : Part) (s : Stack) → rank s ≤ own_of op
+pub op_run : (op : Infix) (o : List Lexeme) → SpellsInfix op o → (p : Part) (s : Stack) → needed_level s ≤ own_of op
     → (rest : List Lexeme)
-    → run (at (have (left_of op) p s)) (o ++ rest) ≡ run (at (operand (joining op p o s))) rest
+    → read_tokens (at (have (left_of op) p s)) (o ++ rest) ≡ read_tokens (at (operand (joining op p o s))) rest
 op_run (arithmetic o) ts h p s r rest = token_run (kind.Operator (sign_of o)) (have (level_of o) p s)
     (λ x. operand (joining (arithmetic o) p x s))
     (λ t. ap (have_turn (level_of o) p s t) (sign_follow o) ∙ link_go (linking (arithmetic o)) p s t r) ts h rest
@@ -129,10 +129,10 @@ op_run (comparison cmp.In) ts h p s r rest = token_run (kind.Keyword word.In) (h
     (λ x. operand (joining (comparison cmp.In) p x s))
     (λ t. link_go (linking (comparison cmp.In)) p s t r) ts h rest
 op_run (comparison cmp.NotIn) ts h p s r rest =
-    let P : List Lexeme → Type 0 = λ x. run (at (have 4 p s)) (x ++ rest)
-    ≡ run (at (operand (joining (comparison cmp.NotIn) p x s))) rest in
+    let P : List Lexeme → Type 0 = λ x. read_tokens (at (have 4 p s)) (x ++ rest)
+    ≡ read_tokens (at (operand (joining (comparison cmp.NotIn) p x s))) rest in
     subst P (sym h.all)
-    (ap (run (at (have 4 p s))) (append_assoc h.front h.back rest)
+    (ap (read_tokens (at (have 4 p s))) (append_assoc h.front h.back rest)
     ∙ token_run (kind.Keyword word.Not) (have 4 p s) (λ x. denied p x s) (λ t. link_go denying p s t r) h.front h.left
     (h.back ++ rest)
     ∙ token_run (kind.Keyword word.In) (denied p h.front s) (λ x.

@@ -8,41 +8,41 @@ use Rattle.pc_tree.specs.declared.tree.BinaryOperator.TheVariants.{Add, Sub, Mul
 use Rattle.pc_grammar.specs.Grammar.Expressions.{level_of}
 use Rattle.pc_grammar.specs.Machine.Kinds.{Infix, arithmetic, comparison, both, either, Follow, link, a_dot, calls}
 use Rattle.pc_grammar.specs.Machine.Kinds.{indexes, ends, follow_of}
-use Rattle.pc_grammar.specs.Machine.States.{Part, Prefix, minus, denial, Stack, joining, applying, State, have, Turn}
+use Rattle.pc_grammar.specs.Machine.States.{Part, Prefix, minus, denial, Stack, joining, applying, State, have, Transition}
 use Rattle.pc_grammar.specs.Machine.States.{stuck, go}
 use Rattle.pc_grammar.specs.Machine.Expressions.{own_of, right_of, left_of_link, prefix_level, follow_tightness, Stops}
 use Rattle.pc_grammar.specs.Machine.Expressions.{joined, applied, reduce, after_link, if_tight, have_turn, close}
-use Rattle.pc_grammar.specs.Machine.{turn, at, lost, arrive, refuses, stop_at, run}
+use Rattle.pc_grammar.specs.Machine.{transition, at, lost, arrive, refuses, stop_at, read_tokens}
 
-pub run_go : (s next : State) (t : Lexeme) (ts : List Lexeme) → turn s t t.kind ≡ go next
-    → run (at s) (t ∷ ts) ≡ run (at next) ts
-unfolding run
-run_go s next t ts e = ap (λ (x : Turn). run (arrive x t) ts) e
+pub run_go : (s next : State) (t : Lexeme) (ts : List Lexeme) → transition s t t.kind ≡ go next
+    → read_tokens (at s) (t ∷ ts) ≡ read_tokens (at next) ts
+unfolding read_tokens
+run_go s next t ts e = ap (λ (x : Transition). read_tokens (arrive x t) ts) e
 
-pub run_stuck : (s : State) (t : Lexeme) (ts : List Lexeme) → turn s t t.kind ≡ stuck
-    → run (at s) (t ∷ ts) ≡ run (lost t.place.start) ts
-unfolding run
-run_stuck s t ts e = ap (λ (x : Turn). run (arrive x t) ts) e
+pub run_stuck : (s : State) (t : Lexeme) (ts : List Lexeme) → transition s t t.kind ≡ stuck
+    → read_tokens (at s) (t ∷ ts) ≡ read_tokens (lost t.place.start) ts
+unfolding read_tokens
+run_stuck s t ts e = ap (λ (x : Transition). read_tokens (arrive x t) ts) e
 
-pub run_lost : (byte : ℕ) (ts : List Lexeme) → run (lost byte) ts ≡ refuses byte
-unfolding run
+pub run_lost : (byte : ℕ) (ts : List Lexeme) → read_tokens (lost byte) ts ≡ refuses byte
+unfolding read_tokens
 run_lost byte [] = refl
 run_lost byte (t ∷ ts) = run_lost byte ts
 
-pub run_none : (s : State) → run (at s) [] ≡ stop_at s
-unfolding run
+pub run_none : (s : State) → read_tokens (at s) [] ≡ stop_at s
+unfolding read_tokens
 run_none s = refl
 
 -- where two states take a token alike
-pub run_same : (s next : State) (t : Lexeme) (ts : List Lexeme) → turn s t t.kind ≡ turn next t t.kind
-    → run (at s) (t ∷ ts) ≡ run (at next) (t ∷ ts)
-unfolding run
-run_same s next t ts e = ap (λ (x : Turn). run (arrive x t) ts) e
+pub run_same : (s next : State) (t : Lexeme) (ts : List Lexeme) → transition s t t.kind ≡ transition next t t.kind
+    → read_tokens (at s) (t ∷ ts) ≡ read_tokens (at next) (t ∷ ts)
+unfolding read_tokens
+run_same s next t ts e = ap (λ (x : Transition). read_tokens (arrive x t) ts) e
 
 -- a token of a known kind
-pub reads_kind : (s next : State) (t : Lexeme) (ts : List Lexeme) (k : TokenKind) → t.kind ≡ k → turn s t k ≡ go next
-    → run (at s) (t ∷ ts) ≡ run (at next) ts
-reads_kind s next t ts k tk e = run_go s next t ts (ap (turn s t) tk ∙ e)
+pub reads_kind : (s next : State) (t : Lexeme) (ts : List Lexeme) (k : TokenKind) → t.kind ≡ k → transition s t k ≡ go next
+    → read_tokens (at s) (t ∷ ts) ≡ read_tokens (at next) ts
+reads_kind s next t ts k tk e = run_go s next t ts (ap (transition s t) tk ∙ e)
 
 pub le_true : (a b : ℕ) → a ≤ b → nat_le a b ≡ true
 le_true a b h = le-leb a b h
@@ -71,7 +71,7 @@ prefix_small minus = omega arith
 prefix_small denial = omega arith
 
 -- a test of levels that holds
-pub tight : (low level : ℕ) (x : Turn) → low ≤ level → if_tight low level x ≡ x
+pub tight : (low level : ℕ) (x : Transition) → low ≤ level → if_tight low level x ≡ x
 tight low level x h = ap (λ b. if b then x else stuck) (le_true low level h)
 
 -- ---- levels
@@ -88,7 +88,7 @@ level_turn a b p s t (ends e) ha hb = refl
 
 -- Before what binds no tighter than either, the level does not matter.
 pub have_level : (a b : ℕ) (p : Part) (s : Stack) (ts : List Lexeme) → Stops (a + 1) ts → Stops (b + 1) ts
-    → run (at (have a p s)) ts ≡ run (at (have b p s)) ts
+    → read_tokens (at (have a p s)) ts ≡ read_tokens (at (have b p s)) ts
 have_level a b p s [] ha hb = run_none _ ∙ sym (run_none _)
 have_level a b p s (t ∷ ts) ha hb = run_same _ _ t ts (level_turn a b p s t (follow_of t.kind) ha hb)
 
@@ -129,12 +129,12 @@ apply_turn x u p s t (ends e) h = ap (λ r. close r.0 r.1 t e) (reduce_apply 0 x
 -- Before what binds no tighter, an operator and its right operand are as good as joined.
 pub join_run : (op : Infix) (l : Part) (o : List Lexeme) (p : Part) (s : Stack) (ts : List Lexeme)
     → Stops (own_of op + 1) ts
-    → run (at (have (right_of op) p (joining op l o s))) ts ≡ run (at (have (own_of op) (joined op l o p) s)) ts
+    → read_tokens (at (have (right_of op) p (joining op l o s))) ts ≡ read_tokens (at (have (own_of op) (joined op l o p) s)) ts
 join_run op l o p s [] h = run_none _ ∙ sym (run_none _)
 join_run op l o p s (t ∷ ts) h = run_same _ _ t ts (join_turn op l o p s t (follow_of t.kind) h)
 
 -- Before what binds no tighter, a prefix and its operand are as good as joined.
 pub apply_run : (x : Prefix) (u : List Lexeme) (p : Part) (s : Stack) (ts : List Lexeme) → Stops (prefix_level x + 1) ts
-    → run (at (have (prefix_level x) p (applying x u s))) ts ≡ run (at (have (prefix_level x) (applied x u p) s)) ts
+    → read_tokens (at (have (prefix_level x) p (applying x u s))) ts ≡ read_tokens (at (have (prefix_level x) (applied x u p) s)) ts
 apply_run x u p s [] h = run_none _ ∙ sym (run_none _)
 apply_run x u p s (t ∷ ts) h = run_same _ _ t ts (apply_turn x u p s t (follow_of t.kind) h)

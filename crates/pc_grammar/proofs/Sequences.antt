@@ -4,14 +4,14 @@ use Rattle.pc_token.specs.declared.token.TokenKind.{TokenKind}
 use Rattle.pc_token.specs.Lexeme.{Lexeme}
 use Rattle.pc_grammar.specs.Grammar.{Spelling, Sequence, ◌⟫◌, Nothing, Just}
 use Rattle.pc_grammar.specs.Machine.States.{State, go}
-use Rattle.pc_grammar.specs.Machine.{turn, at, run}
+use Rattle.pc_grammar.specs.Machine.{transition, at, read_tokens}
 use Rattle.pc_grammar.proofs.Runs.{run_go}
 
 -- ---- reading
 
 -- A part of the grammar is read from one state to the next, whatever follows of which G holds.
 pub record Reads (G A : Spelling) (s next : State) : Type 0 where
-  pub over : (ts : List Lexeme) → A ts → (rest : List Lexeme) → G rest → run (at s) (ts ++ rest) ≡ run (at next) rest
+  pub over : (ts : List Lexeme) → A ts → (rest : List Lexeme) → G rest → read_tokens (at s) (ts ++ rest) ≡ read_tokens (at next) rest
 
 abbrev pub Any : Spelling
 Any ts = Unit {0}
@@ -19,7 +19,7 @@ Any ts = Unit {0}
 pub reads_then : {G H A B : Spelling} {s between next : State} → Reads G A s between → Reads H B between next
     → ((ts : List Lexeme) → B ts → (rest : List Lexeme) → H rest → G (ts ++ rest)) → Reads H (A ⟫ B) s next
 reads_then {s = s} r q fits = record {
-  over = λ ts h rest g. ap (λ x. run (at s) (x ++ rest)) h.all ∙ ap (run (at s)) (append_assoc h.front h.back rest)
+  over = λ ts h rest g. ap (λ x. read_tokens (at s) (x ++ rest)) h.all ∙ ap (read_tokens (at s)) (append_assoc h.front h.back rest)
       ∙ r.over h.front h.left (h.back ++ rest) (fits h.back h.right rest g) ∙ q.over h.back h.right rest g;
 }
 
@@ -33,28 +33,28 @@ pub reads_any : {G A : Spelling} {s next : State} → Reads Any A s next → Rea
 reads_any r = record { over = λ ts h rest g. r.over ts h rest tt }
 
 pub reads_nothing : {G : Spelling} {s : State} → Reads G Nothing s s
-reads_nothing {s = s} = record { over = λ ts h rest g. ap (λ x. run (at s) (x ++ rest)) h }
+reads_nothing {s = s} = record { over = λ ts h rest g. ap (λ x. read_tokens (at s) (x ++ rest)) h }
 
 -- from a state that is as good
 pub reads_from : {G A : Spelling} {s t next : State} → ((rest : List Lexeme) → G rest
-    → run (at s) rest ≡ run (at t) rest)
-    → ((ts : List Lexeme) → A ts → (rest : List Lexeme) → G rest → run (at s) (ts ++ rest) ≡ run (at t) (ts ++ rest))
+    → read_tokens (at s) rest ≡ read_tokens (at t) rest)
+    → ((ts : List Lexeme) → A ts → (rest : List Lexeme) → G rest → read_tokens (at s) (ts ++ rest) ≡ read_tokens (at t) (ts ++ rest))
     → Reads G A t next → Reads G A s next
 reads_from same first r = record { over = λ ts h rest g. first ts h rest g ∙ r.over ts h rest g }
 
-pub reads_just : (k : TokenKind) {s next : State} → ((t : Lexeme) → turn s t k ≡ go next) → Reads Any (Just k) s next
+pub reads_just : (k : TokenKind) {s next : State} → ((t : Lexeme) → transition s t k ≡ go next) → Reads Any (Just k) s next
 reads_just k {s} {next} e = record {
-  over = λ ts h rest g. ap (λ x. run (at s) (x ++ rest)) h.2
-      ∙ run_go s next h.0 rest (ap (turn s h.0) h.1 ∙ e h.0);
+  over = λ ts h rest g. ap (λ x. read_tokens (at s) (x ++ rest)) h.2
+      ∙ run_go s next h.0 rest (ap (transition s h.0) h.1 ∙ e h.0);
 }
 
 -- one token of a kind, where the next state keeps it
 pub token_run : (k : TokenKind) (s : State) (next : List Lexeme → State)
-    → ((t : Lexeme) → turn s t k ≡ go (next (t ∷ [])))
-    → (ts : List Lexeme) → Just k ts → (rest : List Lexeme) → run (at s) (ts ++ rest) ≡ run (at (next ts)) rest
+    → ((t : Lexeme) → transition s t k ≡ go (next (t ∷ [])))
+    → (ts : List Lexeme) → Just k ts → (rest : List Lexeme) → read_tokens (at s) (ts ++ rest) ≡ read_tokens (at (next ts)) rest
 token_run k s next e ts (t, tk, is) rest =
-    ap (λ x. run (at s) (x ++ rest)) is ∙ run_go s (next (t ∷ [])) t rest (ap (turn s t) tk ∙ e t)
-    ∙ ap (λ x. run (at (next x)) rest) (sym is)
+    ap (λ x. read_tokens (at s) (x ++ rest)) is ∙ run_go s (next (t ∷ [])) t rest (ap (transition s t) tk ∙ e t)
+    ∙ ap (λ x. read_tokens (at (next x)) rest) (sym is)
 
 -- ---- the parts of a sequence
 

@@ -3,17 +3,17 @@ use Rattle.std.proofs.Common.{◌≡◌, List, [], ◌∷◌, ◌++◌, refl, sy
 use Rattle.pc_token.specs.Lexeme.{Lexeme}
 use Rattle.pc_tree.specs.Tree.{Module}
 use Rattle.pc_grammar.specs.Grammar.Modules.{SpellsModule}
-use Rattle.pc_grammar.specs.Machine.Kinds.{start_of, follow_of}
+use Rattle.pc_grammar.specs.Machine.Kinds.{operand_start, follow_of}
 use Rattle.pc_grammar.specs.Machine.States.{State, fixed, items, importing, item_named, decorator_due, class_due}
 use Rattle.pc_grammar.specs.Machine.States.{class_named, base_due, members, def_due, self_read, param_due, param_named}
 use Rattle.pc_grammar.specs.Machine.States.{params_read, literal_due, minus_read, literal_read, stmts, return_due}
 use Rattle.pc_grammar.specs.Machine.States.{target_due, after_branch, part_due, part_named, part_read, argument_due}
 use Rattle.pc_grammar.specs.Machine.States.{empty_opened, empty_closed, operand, have, denied, identified, unidentified}
 use Rattle.pc_grammar.specs.Machine.States.{dotted, group_due, item_due, keyword_due, keyword_named, key_due, ended}
-use Rattle.pc_grammar.specs.Machine.States.{Turn}
+use Rattle.pc_grammar.specs.Machine.States.{Transition}
 use Rattle.pc_grammar.specs.Machine.States.{stuck, go}
 use Rattle.pc_grammar.specs.Machine.Lines.{start}
-use Rattle.pc_grammar.specs.Machine.{turn, at, lost, arrive, reads, refuses, stop_at, run, outcome_of}
+use Rattle.pc_grammar.specs.Machine.{transition, at, lost, arrive, reads, refuses, stop_at, read_tokens, outcome_of}
 use Rattle.pc_grammar.specs.Fronts.{LedTo}
 use Rattle.pc_grammar.proofs.Runs.{run_lost}
 use Rattle.pc_grammar.proofs.Sequences.{map_right}
@@ -33,7 +33,7 @@ use Rattle.pc_grammar.proofs.SoundLines.{param_named_stood, params_read_stood, l
 use Rattle.pc_grammar.proofs.SoundLines.{literal_read_stood}
 
 -- Each token keeps what is known of the tokens before.
-pub stood : (s : State) (t : Lexeme) (ts : List Lexeme) → LedTo s ts → Stood (turn s t t.kind) (ts ++ (t ∷ []))
+pub stood : (s : State) (t : Lexeme) (ts : List Lexeme) → LedTo s ts → Stood (transition s t t.kind) (ts ++ (t ∷ []))
 stood (fixed w ws next) t ts h = fixed_stood w ws next t ts h
 stood (items stage top) t ts h = items_stood stage top t ts h
 stood (importing stage top) t ts h = importing_stood stage top t ts h
@@ -61,7 +61,7 @@ stood (part_read a us parts before s) t ts h = part_read_stood finishes_ann a us
 stood (argument_due head us parts before s) t ts h = argument_stood head us parts before s t ts h
 stood (empty_opened head us parts before s) t ts h = empty_opened_stood head us parts before s t ts h
 stood (empty_closed head us parts before s) t ts h = empty_closed_stood head us parts before s t ts h
-stood (operand s) t ts h = operand_stood s t (start_of t.kind) ts (start_means t.kind) h
+stood (operand s) t ts h = operand_stood s t (operand_start t.kind) ts (start_means t.kind) h
 stood (have level p s) t ts h = have_stood finishes level p s t (follow_of t.kind) ts (follow_means t.kind) h
 stood (denied p us s) t ts h = denied_stood p us s t ts h
 stood (identified p us s) t ts h = identified_stood p us s t ts h
@@ -80,19 +80,19 @@ stop_spells (ended n) m past h e = let is : n ≡ m = cc in subst (λ z. SpellsM
 stop_spells _ m past h e = cc
 
 turn_spells : (ts : List Lexeme) (t : Lexeme) (past : List Lexeme) (m : Module)
-    → ((s : State) → LedTo s past → run (at s) ts ≡ reads m → SpellsModule m (past ++ ts))
-    → (x : Turn) → Stood x past → run (arrive x t) ts ≡ reads m → SpellsModule m (past ++ ts)
-turn_spells ts t past m onward stuck h e = let no : run (lost t.place.start) ts ≡ refuses t.place.start =
+    → ((s : State) → LedTo s past → read_tokens (at s) ts ≡ reads m → SpellsModule m (past ++ ts))
+    → (x : Transition) → Stood x past → read_tokens (arrive x t) ts ≡ reads m → SpellsModule m (past ++ ts)
+turn_spells ts t past m onward stuck h e = let no : read_tokens (lost t.place.start) ts ≡ refuses t.place.start =
     run_lost t.place.start ts in cc
 turn_spells ts t past m onward (go s) h e = onward s h e
 
-pub run_spells : (ts past : List Lexeme) (s : State) (m : Module) → LedTo s past → run (at s) ts ≡ reads m
+pub run_spells : (ts past : List Lexeme) (s : State) (m : Module) → LedTo s past → read_tokens (at s) ts ≡ reads m
     → SpellsModule m (past ++ ts)
-unfolding run
+unfolding read_tokens
 run_spells [] past s m h e = subst (λ z. SpellsModule m z) (sym (append-nil past)) (stop_spells s m past h e)
 run_spells (t ∷ ts) past s m h e = subst (λ z. SpellsModule m z) (append_assoc past (t ∷ []) ts)
     (turn_spells ts t (past ++ (t ∷ [])) m (λ next h' e'. run_spells ts (past ++ (t ∷ [])) next m h' e')
-    (turn s t t.kind) (stood s t past h) e)
+    (transition s t t.kind) (stood s t past h) e)
 
 pub start_stands : LedTo start []
 start_stands = λ us f. (

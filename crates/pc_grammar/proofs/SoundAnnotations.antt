@@ -13,10 +13,10 @@ use Rattle.pc_grammar.specs.Grammar.Annotations.{AreSeveral, SpellsAnn, Separate
 use Rattle.pc_grammar.specs.Machine.States.{AnnotationPosition, AnnStack, ann_whole, ann_inside, part_due, part_named}
 use Rattle.pc_grammar.specs.Machine.States.{part_read, argument_due, empty_opened, empty_closed}
 use Rattle.pc_grammar.specs.Machine.Finishing.{add_ann, finish_ann}
-use Rattle.pc_grammar.specs.Machine.Annotations.{whole_ann, ann_end, part_turn, part_read_turn, part_named_turn}
+use Rattle.pc_grammar.specs.Machine.Annotations.{ann_of_parts, ann_end, part_turn, part_read_turn, part_named_turn}
 use Rattle.pc_grammar.specs.Machine.Annotations.{argument_turn, empty_opened_turn, empty_closed_turn}
 use Rattle.pc_grammar.specs.Fronts.{LedTo}
-use Rattle.pc_grammar.specs.Fronts.Lines.{Kept, BeforeAnnContext, EachAnn, BeforeAnn, Parts}
+use Rattle.pc_grammar.specs.Fronts.Lines.{Kept, BeforeAnnContext, EachAnn, BeforeAnn, BeforeUnionPart}
 use Rattle.pc_grammar.proofs.Sequences.{to_right, to_left, map_left, map_right}
 use Rattle.pc_grammar.proofs.Stood.{Stood, grow, just, is_name, on_kind, kept_join, end_nothing}
 use Rattle.pc_grammar.proofs.CompleteStatements.{no_front}
@@ -48,7 +48,7 @@ part_is_whole (applied_empty p head) us h = h
 part_is_whole (union p xs) us h = absurd (true≢false (sym h.0))
 
 whole_spelled : (parts : Anns) (a : Ann) (ts us : List Lexeme) → ts ≡ us
-    → Sequence (EachAnn parts sign.Bar false) (SpellsAnn a false) us → Annotation (whole_ann parts a ts) us
+    → Sequence (EachAnn parts sign.Bar false) (SpellsAnn a false) us → Annotation (ann_of_parts parts a ts) us
 whole_spelled no_anns a ts us e w = part_is_whole a us (no_front us w)
 whole_spelled (more_anns x xs) a ts us e w = (
   refl,
@@ -58,7 +58,7 @@ whole_spelled (more_anns x xs) a ts us e w = (
 
 whole_kept : (parts : Anns) (a : Ann) (before tokens us : List Lexeme)
     → Sequence (Kept before (EachAnn parts sign.Bar false)) (Kept tokens (SpellsAnn a false)) us
-    → Kept (before ++ tokens) (Annotation (whole_ann parts a (before ++ tokens))) us
+    → Kept (before ++ tokens) (Annotation (ann_of_parts parts a (before ++ tokens))) us
 whole_kept parts a before tokens us w = let k = kept_join before tokens us w in
     (k.0, whole_spelled parts a (before ++ tokens) us k.0 k.1)
 
@@ -79,7 +79,7 @@ behind_one o t k ts e w = map_right (λ us v. kept_join o (t ∷ []) us v)
     (to_right (grow {B = Kept (t ∷ []) (Just k)} ts t w (refl, just t k e)))
 
 -- no part yet
-pub first_part : (s : AnnStack) (ts : List Lexeme) → BeforeAnn s ts → Parts no_anns [] s ts
+pub first_part : (s : AnnStack) (ts : List Lexeme) → BeforeAnn s ts → BeforeUnionPart no_anns [] s ts
 first_part s ts h = record { front = ts; back = []; all = sym (append-nil ts); left = h; right = (refl, refl) }
 
 -- the tokens that end a whole annotation, in the lines
@@ -121,7 +121,7 @@ pub part_read_stood : FinishesAnn → (a : Ann) (us : List Lexeme) (parts : Anns
 part_read_stood f a us parts before s t ts w = on_kind t (kind.Operator sign.Bar) _ _ (ts ++ (t ∷ []))
     (λ e. map_right (λ ws k. (k.0, each_ann_add parts a sign.Bar false ws k.1))
     (behind_two before us t (kind.Operator sign.Bar) ts e w))
-    (ann_end_stood f (whole_ann parts a (before ++ us)) (before ++ us) s t ts
+    (ann_end_stood f (ann_of_parts parts a (before ++ us)) (before ++ us) s t ts
     (map_right (whole_kept parts a before us) (to_right w)))
 
 pub part_named_stood : FinishesAnn → (n : Name) (us : List Lexeme) (parts : Anns) (before : List Lexeme) (s : AnnStack)

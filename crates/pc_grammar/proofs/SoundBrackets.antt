@@ -12,20 +12,20 @@ use Rattle.pc_tree.specs.Tree.{Name, Expr, name, tuple, list, dict, is_none, is_
 use Rattle.pc_tree.specs.Tree.{no_exprs, more_exprs, Entries, no_entries, more_entries, Keywords, no_keywords}
 use Rattle.pc_tree.specs.Tree.{more_keywords}
 use Rattle.pc_tree.specs.NamesAlone.{name_of_tree}
-use Rattle.pc_grammar.specs.Grammar.{Spelling, Sequence, ◌⟫◌, Just, Sign, Word, IsName, Nothing, span, name_at}
+use Rattle.pc_grammar.specs.Grammar.{Spelling, Sequence, ◌⟫◌, Just, Sign, Word, IsName, Nothing, span, name_of_token}
 use Rattle.pc_grammar.specs.Grammar.Expressions.{own_level, Operand, Spells, Items, SpellsEntries, SpellsKeywords}
 use Rattle.pc_grammar.specs.Grammar.Expressions.{Expression}
-use Rattle.pc_grammar.specs.Machine.Kinds.{start_of, Link, linking, denying, identifying, Ending, a_comma, a_colon}
+use Rattle.pc_grammar.specs.Machine.Kinds.{operand_start, Link, linking, denying, identifying, Ending, a_comma, a_colon}
 use Rattle.pc_grammar.specs.Machine.Kinds.{an_equal, closes_parenthesis, closes_bracket, closes_brace, Follow, link}
 use Rattle.pc_grammar.specs.Machine.Kinds.{a_dot}
 use Rattle.pc_grammar.specs.Machine.Kinds.{calls, indexes, ends}
-use Rattle.pc_grammar.specs.Machine.States.{Part, Head, in_tuple, in_list, in_call, ExpressionPosition, Stack, whole}
+use Rattle.pc_grammar.specs.Machine.States.{Part, BracketPurpose, in_tuple, in_list, in_call, ExpressionPosition, Stack, whole}
 use Rattle.pc_grammar.specs.Machine.States.{joining, applying, grouping, listing, indexing, naming, keying, valuing}
 use Rattle.pc_grammar.specs.Machine.States.{operand, have, denied, identified, unidentified, dotted, group_due}
 use Rattle.pc_grammar.specs.Machine.States.{item_due}
 use Rattle.pc_grammar.specs.Machine.States.{keyword_due, keyword_named, key_due, go}
 use Rattle.pc_grammar.specs.Machine.Finishing.{add_expr, add_entry, add_keyword, if_plain, finish}
-use Rattle.pc_grammar.specs.Machine.Expressions.{own_of_link, left_of_link, rank, part, grouped, head_tree, reduce}
+use Rattle.pc_grammar.specs.Machine.Expressions.{own_of_link, left_of_link, needed_level, bare_part, grouped, head_tree, reduce}
 use Rattle.pc_grammar.specs.Machine.Expressions.{closer}
 use Rattle.pc_grammar.specs.Machine.Expressions.{group_turn, item_turn, keyword_turn, named_turn, key_turn, dotted_turn}
 use Rattle.pc_grammar.specs.Machine.Expressions.{denied_turn, identified_turn, unidentified_turn, close_group}
@@ -135,9 +135,9 @@ behind_kept o t k ts e w = map_right (λ us v. kept_join o (t ∷ []) us v)
 
 behind_name : {S A : Spelling} (o : List Lexeme) (t : Lexeme) (ts : List Lexeme) → t.kind ≡ kind.Name
     → Sequence S (Kept o A) ts
-    → Sequence S (Kept (o ++ (t ∷ [])) (A ⟫ IsName (name_at t))) (ts ++ (t ∷ []))
+    → Sequence S (Kept (o ++ (t ∷ [])) (A ⟫ IsName (name_of_token t))) (ts ++ (t ∷ []))
 behind_name o t ts e w = map_right (λ us v. kept_join o (t ∷ []) us v)
-    (to_right (grow {B = Kept (t ∷ []) (IsName (name_at t))} ts t w (refl, is_name t e)))
+    (to_right (grow {B = Kept (t ∷ []) (IsName (name_of_token t))} ts t w (refl, is_name t e)))
 
 -- ---- parentheses
 
@@ -171,8 +171,8 @@ grouped_holds o p t us h = let w = h.1 in record {
 kept_node : (make : Place → Expr) (B : Spelling) (tokens : List Lexeme) (s : Stack) (ts : List Lexeme)
     → ((us : List Lexeme) (q : Place) → q ≡ span us → B us → Spells (make q) us)
     → 7 ≤ own_level (make (span tokens)) → Sequence (Before s) (Kept tokens B) ts
-    → LedTo (have 7 (part make tokens) s) ts
-kept_node make B tokens s ts spell le w = stands_have (part make tokens) s ts
+    → LedTo (have 7 (bare_part make tokens) s) ts
+kept_node make B tokens s ts spell le w = stands_have (bare_part make tokens) s ts
     (map_right (λ us h. node_holds 7 make B tokens us (λ q x. spell us q x.0 x.1) le h) w)
 
 group_closed : (o : List Lexeme) (s : Stack) (p : Part) (t : Lexeme) (e : Ending) (ts : List Lexeme) → EndMeans e t.kind
@@ -187,7 +187,7 @@ group_closed o s p t _ ts e w = tt
 
 -- ---- items
 
-items_grow : (h : Head) (xs : Exprs) (x : Expr) (us : List Lexeme)
+items_grow : (h : BracketPurpose) (xs : Exprs) (x : Expr) (us : List Lexeme)
     → Sequence (ItemsBefore h xs) (Expression x ⟫ Sign sign.Comma) us → ItemsBefore h (add_expr xs x) us
 items_grow in_list xs x us w = map_right (λ vs v. each_add xs x vs v) (to_right w)
 items_grow in_tuple xs x us w = (
@@ -250,7 +250,7 @@ keyword_begun (Some n) f xs us s p t ts is e w =
     map_right (λ vs h. (h.0, map_left (λ ws z. end_nothing ws z) h.1))
     (behind_as (IsName n) us p t (kind.Operator sign.Equal) ts e (name_holds p n is) w)
 
-item_closed : (h : Head) (xs : Exprs) (us : List Lexeme) (s : Stack) (p : Part) (t : Lexeme) (e : Ending)
+item_closed : (h : BracketPurpose) (xs : Exprs) (us : List Lexeme) (s : Stack) (p : Part) (t : Lexeme) (e : Ending)
     (ts : List Lexeme) → EndMeans e t.kind → Sequence (Before (listing h xs us s)) (Holds 0 p) ts
     → Stood (close_item h xs us s p t e) (ts ++ (t ∷ []))
 item_closed h xs us s p t a_comma ts e w = map_right (λ vs k. kept_map (us ++ (p.tokens ++ (t ∷ []))) vs
@@ -377,7 +377,7 @@ close_stood f p (applying x u s) t e ts m w = tt
 -- ---- after an operand
 
 linked_stood : (l : Link) (t : Lexeme) (p : Part) (s : Stack) (ts : List Lexeme) → FollowMeans (link l) t.kind
-    → rank s ≤ own_of_link l → Sequence (Before s) (Holds (left_of_link l) p) ts
+    → needed_level s ≤ own_of_link l → Sequence (Before s) (Holds (left_of_link l) p) ts
     → LedTo (linked l t p s) (ts ++ (t ∷ []))
 linked_stood (linking op) t p s ts m r w = (r, grow ts t w (refl, m t refl))
 linked_stood denying t p s ts m r w = (r, grow ts t w (refl, just t _ m))
@@ -393,7 +393,7 @@ pub have_stood : Finishes → (level : ℕ) (p : Part) (s : Stack) (t : Lexeme) 
     → FollowMeans f t.kind → LedTo (have level p s) ts → Stood (have_turn level p s t f) (ts ++ (t ∷ []))
 have_stood fin level p s t (link l) ts m h = on_tight (left_of_link l) level _ (ts ++ (t ∷ []))
     (λ fit. let r = reduce (left_of_link l) p s in
-    on_le (rank r.1) (own_of_link l) (linked l t r.0 r.1) (ts ++ (t ∷ []))
+    on_le (needed_level r.1) (own_of_link l) (linked l t r.0 r.1) (ts ++ (t ∷ []))
     (λ le. linked_stood l t r.0 r.1 ts m le (reduce_holds (left_of_link l) level s p ts h.0 fit h.2)))
 have_stood fin level p s t a_dot ts m h = on_tight 7 level (go (dotted p (t ∷ []) s)) (ts ++ (t ∷ []))
     (λ fit. grow ts t (map_right (λ us k. holds_lower 7 level p us fit k) h.2) (refl, just t _ m))
@@ -419,9 +419,9 @@ pub group_stood : (o : List Lexeme) (s : Stack) (t : Lexeme) (ts : List Lexeme) 
 group_stood o s t ts h = on_kind t (kind.Operator sign.RightParenthesis) _ _ (ts ++ (t ∷ []))
     (λ e. kept_node (λ q. tuple q no_exprs) _ (o ++ (t ∷ [])) s (ts ++ (t ∷ [])) unit_spells (omega arith)
     (behind_kept o t (kind.Operator sign.RightParenthesis) ts e h))
-    (operand_stood (grouping o s) t (start_of t.kind) ts (start_means t.kind) h)
+    (operand_stood (grouping o s) t (operand_start t.kind) ts (start_means t.kind) h)
 
-closed_spells : (h : Head) (xs : Exprs) (us : List Lexeme) (q : Place) → q ≡ span us
+closed_spells : (h : BracketPurpose) (xs : Exprs) (us : List Lexeme) (q : Place) → q ≡ span us
     → Sequence (ItemsBefore h xs) (Just (closer h)) us → Spells (head_tree h xs q) us
 closed_spells in_list xs us q e w =
     (e, map_right (λ xs1 a. map_left (λ bs b. each_others Nothing ⊤ xs bs (end_nothing bs b)) a) (to_right w))
@@ -439,17 +439,17 @@ closed_spells (in_call f) xs us q e w = (
       (end_nothing cs c)) b) a) (to_right (to_right w)),
 )
 
-head_own : (h : Head) (xs : Exprs) (q : Place) → 7 ≤ own_level (head_tree h xs q)
+head_own : (h : BracketPurpose) (xs : Exprs) (q : Place) → 7 ≤ own_level (head_tree h xs q)
 head_own in_list xs q = omega arith
 head_own in_tuple xs q = omega arith
 head_own (in_call f) xs q = omega arith
 
-pub item_stood : (h : Head) (xs : Exprs) (us : List Lexeme) (s : Stack) (t : Lexeme) (ts : List Lexeme)
+pub item_stood : (h : BracketPurpose) (xs : Exprs) (us : List Lexeme) (s : Stack) (t : Lexeme) (ts : List Lexeme)
     → LedTo (item_due h xs us s) ts → Stood (item_turn h xs us s t t.kind) (ts ++ (t ∷ []))
 item_stood h xs us s t ts k = on_kind t (closer h) _ _ (ts ++ (t ∷ []))
     (λ e. kept_node (head_tree h xs) (ItemsBefore h xs ⟫ Just (closer h)) (us ++ (t ∷ [])) s (ts ++ (t ∷ []))
     (closed_spells h xs) (head_own h xs _) (behind_kept us t (closer h) ts e k))
-    (operand_stood (listing h xs us s) t (start_of t.kind) ts (start_means t.kind) k)
+    (operand_stood (listing h xs us s) t (operand_start t.kind) ts (start_means t.kind) k)
 
 pub keyword_stood : (f : Expr) (xs : Exprs) (ks : Keywords) (us : List Lexeme) (s : Stack) (t : Lexeme)
     (ts : List Lexeme) → LedTo (keyword_due f xs ks us s) ts → Stood (keyword_turn f xs ks us s t t.kind)
@@ -475,7 +475,7 @@ pub key_stood : (es : Entries) (us : List Lexeme) (s : Stack) (t : Lexeme) (ts :
 key_stood es us s t ts h = on_kind t (kind.Operator sign.RightBrace) _ _ (ts ++ (t ∷ []))
     (λ e. kept_node (λ q. dict q es) (EntriesBefore es ⟫ Sign sign.RightBrace) (us ++ (t ∷ [])) s (ts ++ (t ∷ []))
     (dict_spells es) (omega arith) (behind_kept us t (kind.Operator sign.RightBrace) ts e h))
-    (operand_stood (keying es us s) t (start_of t.kind) ts (start_means t.kind) h)
+    (operand_stood (keying es us s) t (operand_start t.kind) ts (start_means t.kind) h)
 
 -- an operand, the kept tokens after it, and one more token
 behind_operand : {S A : Spelling} (level : ℕ) (C : Spelling) (p : Part) (o : List Lexeme) (t : Lexeme)
@@ -493,9 +493,9 @@ attribute_spells m n us q e w = (e, w)
 pub dotted_stood : (p : Part) (o : List Lexeme) (s : Stack) (t : Lexeme) (ts : List Lexeme) → LedTo (dotted p o s) ts
     → Stood (dotted_turn p o s t t.kind) (ts ++ (t ∷ []))
 dotted_stood p o s t ts h = on_kind t kind.Name _ _ (ts ++ (t ∷ []))
-    (λ e. kept_node (λ q. attribute q p.tree (name_at t)) _ (p.tokens ++ (o ++ (t ∷ []))) s (ts ++ (t ∷ []))
-    (attribute_spells p.tree (name_at t)) (omega arith)
-    (behind_operand 7 (IsName (name_at t)) p o t ts (is_name t e) h)) tt
+    (λ e. kept_node (λ q. attribute q p.tree (name_of_token t)) _ (p.tokens ++ (o ++ (t ∷ []))) s (ts ++ (t ∷ []))
+    (attribute_spells p.tree (name_of_token t)) (omega arith)
+    (behind_operand 7 (IsName (name_of_token t)) p o t ts (is_name t e) h)) tt
 
 pub denied_stood : (p : Part) (o : List Lexeme) (s : Stack) (t : Lexeme) (ts : List Lexeme) → LedTo (denied p o s) ts
     → Stood (denied_turn p o s t t.kind) (ts ++ (t ∷ []))
@@ -505,8 +505,8 @@ denied_stood p o s t ts h = on_kind t (kind.Keyword word.In) _ _ (ts ++ (t ∷ [
 -- a node of a comparison's level
 compared : (make : Place → Expr) (B : Spelling) (tokens : List Lexeme) (s : Stack) (ts : List Lexeme)
     → ((us : List Lexeme) (q : Place) → q ≡ span us → B us → Spells (make q) us)
-    → 3 ≤ own_level (make (span tokens)) → rank s ≤ 3 → Sequence (Before s) (Kept tokens B) ts
-    → LedTo (have 3 (part make tokens) s) ts
+    → 3 ≤ own_level (make (span tokens)) → needed_level s ≤ 3 → Sequence (Before s) (Kept tokens B) ts
+    → LedTo (have 3 (bare_part make tokens) s) ts
 compared make B tokens s ts spell le r w =
     (r, omega arith, map_right (λ us h. node_holds 3 make B tokens us (λ q x. spell us q x.0 x.1) le h) w)
 

@@ -8,16 +8,16 @@ use Rattle.pc_token.specs.declared.token.Keyword.TheVariants as word
 use Rattle.pc_token.specs.declared.token.Operator.TheVariants as sign
 use Rattle.pc_token.specs.Lexeme.{Lexeme}
 use Rattle.pc_tree.specs.Tree.{Expr, name, number, text, truth, nothing}
-use Rattle.pc_grammar.specs.Grammar.{Spelling, Sequence, ◌⟫◌, At, Just, span, name_at, digits_of, characters_of}
+use Rattle.pc_grammar.specs.Grammar.{Spelling, Sequence, ◌⟫◌, At, Just, span, name_of_token, digits_of, characters_of}
 use Rattle.pc_grammar.specs.Grammar.Expressions.{own_level, Operand, Spells, truth_word}
 use Rattle.pc_grammar.specs.Machine.Kinds.{Start, a_name, a_number, a_string, a_truth, a_none, opens_parenthesis}
-use Rattle.pc_grammar.specs.Machine.Kinds.{opens_bracket, opens_brace, a_minus, a_not, no_start, start_of, Infix}
+use Rattle.pc_grammar.specs.Machine.Kinds.{opens_bracket, opens_brace, a_minus, a_not, no_start, operand_start, Infix}
 use Rattle.pc_grammar.specs.Machine.Kinds.{arithmetic, comparison, both, either, linking, denying, identifying, Ending}
 use Rattle.pc_grammar.specs.Machine.Kinds.{a_comma, a_colon, an_equal, closes_parenthesis, closes_bracket, closes_brace}
 use Rattle.pc_grammar.specs.Machine.Kinds.{a_line_end, no_ending, Follow, link, a_dot, calls, indexes, ends, follow_of}
 use Rattle.pc_grammar.specs.Machine.States.{Part, Prefix, minus, denial, Stack, whole, joining, applying, grouping}
 use Rattle.pc_grammar.specs.Machine.States.{listing, indexing, naming, keying, valuing, operand, have}
-use Rattle.pc_grammar.specs.Machine.Expressions.{own_of, left_of, right_of, prefix_level, rank, part, infix_tree}
+use Rattle.pc_grammar.specs.Machine.Expressions.{own_of, left_of, right_of, prefix_level, needed_level, bare_part, infix_tree}
 use Rattle.pc_grammar.specs.Machine.Expressions.{prefix_tree, joined, applied, reduce, operand_turn}
 use Rattle.pc_grammar.specs.Fronts.{LedTo}
 use Rattle.pc_grammar.specs.Fronts.Lines.{Kept}
@@ -41,7 +41,7 @@ StartMeans a_minus k = k ≡ kind.Operator sign.Minus
 StartMeans a_not k = k ≡ kind.Keyword word.Not
 StartMeans no_start k = Unit {0}
 
-pub start_means : (k : TokenKind) → StartMeans (start_of k) k
+pub start_means : (k : TokenKind) → StartMeans (operand_start k) k
 start_means kind.Name = refl
 start_means kind.Int = refl
 start_means kind.Str = refl
@@ -111,7 +111,7 @@ right_six (comparison o) = omega arith
 right_six both = omega arith
 right_six either = omega arith
 
-pub rank_six : (s : Stack) → rank s ≤ 6
+pub rank_six : (s : Stack) → needed_level s ≤ 6
 rank_six (joining op l o s) = right_six op
 rank_six (applying minus t s) = omega arith
 rank_six (applying denial t s) = omega arith
@@ -147,7 +147,7 @@ holds_plain level m ts h le = record { tokens = refl; spelled = (0, inl le, h); 
 -- a node whose place is that of the kept tokens
 pub node_holds : (level : ℕ) (make : Place → Expr) (B : Spelling) (tokens us : List Lexeme)
     → ((q : Place) → At q B us → Spells (make q) us) → level ≤ own_level (make (span tokens))
-    → Kept tokens B us → Holds level (part make tokens) us
+    → Kept tokens B us → Holds level (bare_part make tokens) us
 node_holds level make B tokens us spell le h = record {
   tokens = h.0;
   spelled =
@@ -163,7 +163,7 @@ stands_have p s ts h = (omega (arith, rank_six s), omega arith, h)
 pub operand_stood : (s : Stack) (t : Lexeme) (x : Start) (ts : List Lexeme) → StartMeans x t.kind → Before s ts
     → Stood (operand_turn s t x) (ts ++ (t ∷ []))
 operand_stood s t a_name ts e h = stands_have _ s _ (grow ts t h
-    (holds_plain 7 (name (name_at t)) (t ∷ []) (is_name t e) (omega arith)))
+    (holds_plain 7 (name (name_of_token t)) (t ∷ []) (is_name t e) (omega arith)))
 operand_stood s t a_number ts e h = stands_have _ s _ (grow ts t h
     (holds_plain 7 (number (span (t ∷ [])) (digits_of t.text)) (t ∷ []) (refl, (t, e, refl, refl)) (omega arith)))
 operand_stood s t a_string ts e h = stands_have _ s _ (grow ts t h
@@ -176,7 +176,7 @@ operand_stood s t opens_parenthesis ts e h = grow ts t h (refl, just t _ e)
 operand_stood s t opens_bracket ts e h = grow ts t h (refl, end_nothing (t ∷ []) (just t _ e))
 operand_stood s t opens_brace ts e h = grow ts t h (refl, end_nothing (t ∷ []) (just t _ e))
 operand_stood s t a_minus ts e h = (rank_six s, grow ts t h (refl, just t _ e))
-operand_stood s t a_not ts e h = on_le (rank s) 2 (operand (applying denial (t ∷ []) s)) (ts ++ (t ∷ []))
+operand_stood s t a_not ts e h = on_le (needed_level s) 2 (operand (applying denial (t ∷ []) s)) (ts ++ (t ∷ []))
     (λ le. (le, grow ts t h (refl, just t _ e)))
 operand_stood s t no_start ts e h = tt
 
@@ -234,7 +234,7 @@ reduce_test level own a b ts fits otherwise = by_test (nat_le level own) refl
     by_test true e = fits (leb-true level own e)
     by_test false e = otherwise
 
-pub reduce_holds : (level high : ℕ) (s : Stack) (p : Part) (ts : List Lexeme) → rank s ≤ high → level ≤ high
+pub reduce_holds : (level high : ℕ) (s : Stack) (p : Part) (ts : List Lexeme) → needed_level s ≤ high → level ≤ high
     → Sequence (Before s) (Holds high p) ts → Reduced level (reduce level p s) ts
 reduce_holds level high (joining op l o s) p ts r le w = reduce_test level (own_of op)
     (reduce level (joined op l o p) s) (p, joining op l o s) ts

@@ -17,7 +17,7 @@ use Rattle.pc_grammar.specs.Grammar.Statements.{Suite, SpellsStmt, SpellsStmts}
 use Rattle.pc_grammar.specs.Grammar.Modules.{SpellsLiteral, SpellsParam, SpellsParams, Parameters, SpellsMember}
 use Rattle.pc_grammar.specs.Grammar.Modules.{SpellsMembers, SpellsItem, SpellsItems}
 use Rattle.pc_grammar.specs.Machine.Kinds.{a_kind, SpellsAllFixed, Ending, a_comma, a_colon, an_equal, a_line_end}
-use Rattle.pc_grammar.specs.Machine.States.{Top, ClassStart, Owner, of_module, of_class, DefStart, Nest, while_body}
+use Rattle.pc_grammar.specs.Machine.States.{Top, ClassStart, FunctionOwner, of_module, of_class, DefStart, Nest, while_body}
 use Rattle.pc_grammar.specs.Machine.States.{for_body, branch_body, Block, def_body, Site, Begun, assigned}
 use Rattle.pc_grammar.specs.Machine.States.{annotated_value}
 use Rattle.pc_grammar.specs.Machine.States.{returned, asserted, asserted_with, looping, iterating, branching, in_line}
@@ -141,19 +141,19 @@ params_all : (ps : List Param) (us : List Lexeme) → EachParam ps us → Spells
 params_all [] us h = h
 params_all (x ∷ xs) us w = map_right (λ vs v. inl (map_right (λ ws z. params_all xs ws z) v)) w
 
-params_of_add : (owner : Owner) (ps : List Param) (p : Param) (us : List Lexeme)
+params_of_add : (owner : FunctionOwner) (ps : List Param) (p : Param) (us : List Lexeme)
     → Sequence (ParamsOf owner ps) (SpellsParam p ⟫ Sign sign.Comma) us → ParamsOf owner (ps ++ (p ∷ [])) us
 params_of_add (of_module top) ps p us w = params_add ps p us w
 params_of_add (of_class c ms) ps p us w = map_right (λ vs v. map_right (λ ws z. params_add ps p ws z) (to_right v))
     (to_right w)
 
-params_of_last : (owner : Owner) (ps : List Param) (p : Param) (us : List Lexeme)
+params_of_last : (owner : FunctionOwner) (ps : List Param) (p : Param) (us : List Lexeme)
     → Sequence (ParamsOf owner ps) (SpellsParam p) us → Parameters (is_method owner) (ps ++ (p ∷ [])) us
 params_of_last (of_module top) ps p us w = params_last ps p us w
 params_of_last (of_class c ms) ps p us w = map_right (λ vs v.
     inl (map_right (λ ws z. params_last ps p ws z) (to_right v))) (to_right w)
 
-pub params_of_all : (owner : Owner) (ps : List Param) (us : List Lexeme) → ParamsOf owner ps us
+pub params_of_all : (owner : FunctionOwner) (ps : List Param) (us : List Lexeme) → ParamsOf owner ps us
     → Parameters (is_method owner) ps us
 params_of_all (of_module top) ps us h = params_all ps us h
 params_of_all (of_class c ms) ps us w = map_right (λ vs v. inl (map_right (λ ws z. params_all ps ws z) v)) w

@@ -14,17 +14,17 @@ use Rattle.pc_tree.specs.Tree.{no_stmts, more_stmts, Branches, no_branches, more
 use Rattle.pc_tree.specs.Tree.{method_member, Item, class_item, def_item}
 use Rattle.pc_grammar.specs.Grammar.{Spelling, Sequence, ◌⟫◌, Begins, Just, Sign, Word, IsName, Named, NamedAt}
 use Rattle.pc_grammar.specs.Grammar.{IsNumber}
-use Rattle.pc_grammar.specs.Grammar.{Maybe, span, name_at, digits_of}
+use Rattle.pc_grammar.specs.Grammar.{Maybe, span, name_of_token, digits_of}
 use Rattle.pc_grammar.specs.Grammar.Expressions.{Expression}
 use Rattle.pc_grammar.specs.Grammar.Annotations.{Annotation}
 use Rattle.pc_grammar.specs.Grammar.Statements.{Suite, SpellsStmt, SpellsStmts, SpellsBranches}
 use Rattle.pc_grammar.specs.Grammar.Modules.{Parameters, ClassBody, Header, LastLine, SpellsModule}
 use Rattle.pc_grammar.specs.Machine.Kinds.{Fixed, a_kind, a_form, is_fixed, same_kind, SpellsFixed, SpellsAllFixed}
-use Rattle.pc_grammar.specs.Machine.Kinds.{start_of, Lead, leads_pass, leads_break, leads_continue, leads_return}
+use Rattle.pc_grammar.specs.Machine.Kinds.{operand_start, Lead, leads_pass, leads_break, leads_continue, leads_return}
 use Rattle.pc_grammar.specs.Machine.Kinds.{leads_assert, leads_while, leads_for, leads_if, leads_out, leads_other}
 use Rattle.pc_grammar.specs.Machine.Kinds.{lead_of}
-use Rattle.pc_grammar.specs.Machine.States.{Stage, after_future, after_dataclasses, after_headers, Top, ClassStart}
-use Rattle.pc_grammar.specs.Machine.States.{Owner}
+use Rattle.pc_grammar.specs.Machine.States.{HeaderStage, after_future, after_dataclasses, after_headers, Top, ClassStart}
+use Rattle.pc_grammar.specs.Machine.States.{FunctionOwner}
 use Rattle.pc_grammar.specs.Machine.States.{of_module, of_class, DefStart, def_body, Nest, while_body, for_body}
 use Rattle.pc_grammar.specs.Machine.States.{branch_body, else_body, Block, nested, Site, returned, iterating, in_line}
 use Rattle.pc_grammar.specs.Machine.States.{in_statement, of_constant, of_field, of_param, of_return, LiteralContext}
@@ -95,7 +95,7 @@ def_whole : (d : DefStart) (ps : List Param) {Y : Spelling} (us : List Lexeme)
     ⟫ Sign sign.RightParenthesis ⟫ Y) us
 def_whole d ps us w = to_right (to_right (map_right (λ vs v. to_right v) (to_right w)))
 
-def_done : (owner : Owner) (first : Place) (f : FuncDef) (ts : List Lexeme)
+def_done : (owner : FunctionOwner) (first : Place) (f : FuncDef) (ts : List Lexeme)
     → Sequence (BeforeOwner owner) (DefWord owner first ⟫ IsName f.name ⟫ Sign sign.LeftParenthesis ⟫ Parameters
     (is_method owner) f.params ⟫ Sign sign.RightParenthesis
     ⟫ Maybe (λ a. Sign sign.Arrow ⟫ Annotation a) f.returns ⟫ Suite (SpellsStmts f.body)) ts
@@ -218,7 +218,7 @@ lead_stood site t leads_out ts p m h = out site.done site.block h
     out : (done : Stmts) (b : Block) → BeforeStmts done b ts → Stood (end_suite done b) (ts ++ (t ∷ []))
     out no_stmts b h = tt
     out (more_stmts s ss) b h = suite_done b s ss t ts m h
-lead_stood site t leads_other ts p m h = operand_stood (whole (in_line site.done site.block)) t (start_of t.kind) ts
+lead_stood site t leads_other ts p m h = operand_stood (whole (in_line site.done site.block)) t (operand_start t.kind) ts
     (start_means t.kind) h
 
 pub stmts_stood : (done : Stmts) (b : Block) (t : Lexeme) (ts : List Lexeme) → BeforeStmts done b ts
@@ -233,13 +233,13 @@ return_stood site t ts w = on_kind t kind.Newline _ _ (ts ++ (t ∷ []))
     (map_right (λ us v. begins_just (kind.Keyword word.Return) site.first us
     (map_right (λ vs z. start_nothing vs z) v))
     (to_right (grow {B = Just kind.Newline} ts t w (just t _ e)))))
-    (operand_stood (whole (in_statement returned site)) t (start_of t.kind) ts (start_means t.kind) w)
+    (operand_stood (whole (in_statement returned site)) t (operand_start t.kind) ts (start_means t.kind) w)
 
 pub target_stood : (site : Site) (t : Lexeme) (ts : List Lexeme) → LedTo (target_due site) ts
     → Stood (target_turn site t t.kind) (ts ++ (t ∷ []))
 target_stood site t ts w = on_kind t kind.Name _ _ (ts ++ (t ∷ []))
-    (λ e. words_stand (a_kind (kind.Keyword word.In)) [] (operand (whole (in_statement (iterating (name_at t)) site)))
-    (ts ++ (t ∷ [])) (to_right (grow {B = IsName (name_at t)} ts t w (is_name t e)))
+    (λ e. words_stand (a_kind (kind.Keyword word.In)) [] (operand (whole (in_statement (iterating (name_of_token t)) site)))
+    (ts ++ (t ∷ [])) (to_right (grow {B = IsName (name_of_token t)} ts t w (is_name t e)))
     (λ us v. map_right (λ vs z. map_right no_back z) (to_right v))) tt
 
 else_word : (bs : Branches) (site : Site) (ts us : List Lexeme) → Sequence (BeforeStmts site.done site.block)
@@ -267,7 +267,7 @@ branch_stood bs site t ts w = on_kind t (kind.Keyword word.Elif) _ _ (ts ++ (t �
 
 -- ---- the module
 
-pub items_stood : (stage : Stage) (top : Top) (t : Lexeme) (ts : List Lexeme) → LedTo (items stage top) ts
+pub items_stood : (stage : HeaderStage) (top : Top) (t : Lexeme) (ts : List Lexeme) → LedTo (items stage top) ts
     → Stood (items_turn stage top t t.kind) (ts ++ (t ∷ []))
 items_stood stage top t ts h = on_kind t kind.Name _ _ (ts ++ (t ∷ [])) (λ e. grow ts t h.1 (is_name t e))
     (on_kind t (kind.Operator sign.At) _ _ (ts ++ (t ∷ [])) (λ e. grow ts t h.1 (just_at t _ e))
@@ -287,7 +287,7 @@ header_whole source imported ts w = map_right (λ vs v. map_right
 abbrev top_with : Bool → Bool → List Item → Top
 top_with d a is = record { imports_dataclass = d; imports_any = a; items = is }
 
-dataclass_header : (stage : Stage) (d a : Bool) (is : List Item) → takes_dataclasses stage ≡ true
+dataclass_header : (stage : HeaderStage) (d a : Bool) (is : List Item) → takes_dataclasses stage ≡ true
     → AtStage stage (top_with d a is) → (ts : List Lexeme)
     → Sequence (BeforeItems (top_with d a is)) (Header (codes "dataclasses") (codes "dataclass")) ts
     → LedTo (items after_dataclasses (top_with true a is)) ts
@@ -302,7 +302,7 @@ dataclass_header after_future false false (x ∷ xs) e s ts w = cc
 dataclass_header after_dataclasses d a is e s ts w = cc
 dataclass_header after_headers d a is e s ts w = cc
 
-typing_header : (stage : Stage) (d a : Bool) (is : List Item) → takes_header stage ≡ true
+typing_header : (stage : HeaderStage) (d a : Bool) (is : List Item) → takes_header stage ≡ true
     → AtStage stage (top_with d a is) → (ts : List Lexeme)
     → Sequence (BeforeItems (top_with d a is)) (Header (codes "typing") (codes "Any")) ts
     → LedTo (items after_headers (top_with d true is)) ts
@@ -330,7 +330,7 @@ a_named : (t : Lexeme) (form : List ℕ) → (same_kind t.kind kind.Name && byte
     → Named form (t ∷ [])
 a_named t form e = is_fixed_spells (a_form form) t e
 
-pub importing_stood : (stage : Stage) (top : Top) (t : Lexeme) (ts : List Lexeme) → LedTo (importing stage top) ts
+pub importing_stood : (stage : HeaderStage) (top : Top) (t : Lexeme) (ts : List Lexeme) → LedTo (importing stage top) ts
     → Stood (importing_turn stage top t t.kind) (ts ++ (t ∷ []))
 importing_stood stage top t ts h = stood_on ((same_kind t.kind kind.Name && bytes_eq t.form (codes "dataclasses"))
     && takes_dataclasses stage) _ _ (ts ++ (t ∷ []))
@@ -396,7 +396,7 @@ decorator_stood first top t ts w = on_both t kind.Name (bytes_eq t.form (codes "
 pub class_stood : (first decorator : Place) (top : Top) (t : Lexeme) (ts : List Lexeme)
     → LedTo (class_due first decorator top) ts → Stood (class_turn first decorator top t t.kind) (ts ++ (t ∷ []))
 class_stood first decorator top t ts w = on_kind t kind.Name _ _ (ts ++ (t ∷ []))
-    (λ e. (refl, to_right (grow {B = IsName (name_at t)} ts t w (is_name t e)))) tt
+    (λ e. (refl, to_right (grow {B = IsName (name_of_token t)} ts t w (is_name t e)))) tt
 
 head_plain : (c : ClassStart) → c.base ≡ None → (us : List Lexeme) → Sequence (ClassName c) Opening us → ClassHead c us
 head_plain c e us w =
@@ -429,9 +429,9 @@ pub base_stood : (c : ClassStart) (t : Lexeme) (ts : List Lexeme) → LedTo (bas
 base_stood c t ts h = on_kind t kind.Name _ _ (ts ++ (t ∷ []))
     (λ e. words_stand (a_kind (kind.Operator sign.RightParenthesis))
     (a_kind (kind.Operator sign.Colon) ∷ a_kind kind.Newline ∷ a_kind kind.Indent ∷ [])
-    (members (record c { base = Some (name_at t) }) []) (ts ++ (t ∷ []))
-    (grow {B = IsName (name_at t)} ts t h.1 (is_name t e)) (λ us v. end_nothing us
-    (map_right (λ vs z. base_head c (name_at t) vs z) (to_right (to_right v))))) tt
+    (members (record c { base = Some (name_of_token t) }) []) (ts ++ (t ∷ []))
+    (grow {B = IsName (name_of_token t)} ts t h.1 (is_name t e)) (λ us v. end_nothing us
+    (map_right (λ vs z. base_head c (name_of_token t) vs z) (to_right (to_right v))))) tt
 
 class_done : (c : ClassStart) (ms : List Member) (us : List Lexeme) → Sequence (BeforeItems c.top ⟫ ClassHead c)
     (ClassBody ms ⟫ Just kind.Dedent) us → LedTo (after_class c ms) us
@@ -457,28 +457,28 @@ pub members_stood : (c : ClassStart) (ms : List Member) (t : Lexeme) (ts : List 
     → Stood (members_turn c ms t t.kind) (ts ++ (t ∷ []))
 members_stood c ms t ts w = on_kind t kind.Name _ _ (ts ++ (t ∷ []))
     (λ e. words_stand (a_kind (kind.Operator sign.Colon)) [] (part_due no_anns []
-    (ann_whole (of_field c ms (name_at t)))) (ts ++ (t ∷ [])) (grow {B = IsName (name_at t)} ts t w (is_name t e))
-    (λ us v. first_part (ann_whole (of_field c ms (name_at t))) us
+    (ann_whole (of_field c ms (name_of_token t)))) (ts ++ (t ∷ [])) (grow {B = IsName (name_of_token t)} ts t w (is_name t e))
+    (λ us v. first_part (ann_whole (of_field c ms (name_of_token t))) us
     (map_right (λ vs z. map_right no_back z) (to_right v))))
     (on_kind t (kind.Keyword word.Def) _ _ (ts ++ (t ∷ [])) (λ e. grow ts t w (just t _ e))
     (members_end_stood c ms t ts w))
 
 -- ---- functions
 
-pub def_stood : (owner : Owner) (first : Place) (t : Lexeme) (ts : List Lexeme) → LedTo (def_due owner first) ts
+pub def_stood : (owner : FunctionOwner) (first : Place) (t : Lexeme) (ts : List Lexeme) → LedTo (def_due owner first) ts
     → Stood (def_turn owner first t t.kind) (ts ++ (t ∷ []))
 def_stood (of_module top) first t ts w = on_kind t kind.Name _ _ (ts ++ (t ∷ []))
     (λ e. words_stand (a_kind (kind.Operator sign.LeftParenthesis)) []
-    (param_due (record { owner = of_module top; first = first; name = name_at t }) []) (ts ++ (t ∷ []))
-    (to_right (grow {B = IsName (name_at t)} ts t w (is_name t e)))
+    (param_due (record { owner = of_module top; first = first; name = name_of_token t }) []) (ts ++ (t ∷ []))
+    (to_right (grow {B = IsName (name_of_token t)} ts t w (is_name t e)))
     (λ us v. map_right (λ vs z. end_nothing vs (map_right no_back z)) (to_right v))) tt
 def_stood (of_class c ms) first t ts w = on_kind t kind.Name _ _ (ts ++ (t ∷ []))
     (λ e. words_stand (a_kind (kind.Operator sign.LeftParenthesis)) (a_form (codes "self") ∷ [])
-    (self_read (record { owner = of_class c ms; first = first; name = name_at t })) (ts ++ (t ∷ []))
-    (to_right (grow {B = IsName (name_at t)} ts t w (is_name t e)))
+    (self_read (record { owner = of_class c ms; first = first; name = name_of_token t })) (ts ++ (t ∷ []))
+    (to_right (grow {B = IsName (name_of_token t)} ts t w (is_name t e)))
     (λ us v. map_right (λ vs z. to_left (map_right (λ ws x. map_right no_back x) z)) (to_right v))) tt
 
-self_owner : (d : DefStart) (owner : Owner) → d.owner ≡ owner → (t : Lexeme) (ts : List Lexeme) → SelfRead d owner ts
+self_owner : (d : DefStart) (owner : FunctionOwner) → d.owner ≡ owner → (t : Lexeme) (ts : List Lexeme) → SelfRead d owner ts
     → Stood (self_turn d t t.kind) (ts ++ (t ∷ []))
 self_owner d (of_module top) is t ts w = absurd w
 self_owner d (of_class c ms) is t ts w = on_kind t (kind.Operator sign.Comma) _ _ (ts ++ (t ∷ []))

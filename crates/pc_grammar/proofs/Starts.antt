@@ -11,10 +11,10 @@ use Rattle.pc_tree.specs.Tree.{compare, is_none, is_not_none, conjunction, disju
 use Rattle.pc_tree.specs.Tree.{no_exprs, more_exprs}
 use Rattle.pc_grammar.specs.Grammar.{Spelling, Sequence, Just}
 use Rattle.pc_grammar.specs.Grammar.Expressions.{own_level, Wrapped, Operand, Spells}
-use Rattle.pc_grammar.specs.Machine.Kinds.{same_kind, Start, no_start, start_of}
+use Rattle.pc_grammar.specs.Machine.Kinds.{same_kind, Start, no_start, operand_start}
 use Rattle.pc_grammar.specs.Machine.States.{State, on}
 use Rattle.pc_grammar.specs.Machine.Expressions.{tightness, Stops}
-use Rattle.pc_grammar.specs.Machine.{turn, at, run}
+use Rattle.pc_grammar.specs.Machine.{transition, at, read_tokens}
 use Rattle.pc_grammar.proofs.Runs.{run_same}
 use Rattle.pc_grammar.proofs.SameKind.{same_kind_is}
 
@@ -25,7 +25,7 @@ IsStart _ = Unit {0}
 -- the first token may begin an operand
 abbrev pub Starts : Spelling
 Starts [] = ⊥
-Starts (t ∷ ts) = IsStart (start_of t.kind)
+Starts (t ∷ ts) = IsStart (operand_start t.kind)
 
 pub starts_append : (a b : List Lexeme) → Starts a → Starts (a ++ b)
 starts_append [] b h = absurd h
@@ -34,8 +34,8 @@ starts_append (t ∷ a) b h = h
 pub starts_first : {A B : Spelling} {ts : List Lexeme} (h : Sequence A B ts) → Starts h.front → Starts ts
 starts_first h f = subst Starts (sym h.all) (starts_append h.front h.back f)
 
-pub starts_just : (k : TokenKind) → IsStart (start_of k) → (ts : List Lexeme) → Just k ts → Starts ts
-starts_just k h ts (t, tk, is) = subst Starts (sym is) (subst (λ x. IsStart (start_of x)) (sym tk) h)
+pub starts_just : (k : TokenKind) → IsStart (operand_start k) → (ts : List Lexeme) → Just k ts → Starts ts
+starts_just k h ts (t, tk, is) = subst Starts (sym is) (subst (λ x. IsStart (operand_start x)) (sym tk) h)
 
 pub starts_wrapped : (n : ℕ) (A : Spelling) → ((ts : List Lexeme) → A ts → Starts ts) → (ts : List Lexeme)
     → Wrapped n A ts → Starts ts
@@ -82,20 +82,20 @@ pub starts_operand : (level : ℕ) (m : Expr) (ts : List Lexeme) → Operand lev
 starts_operand level m ts h = starts_wrapped h.0 (λ x. Spells m x) (λ x y. starts m x y) ts h.2
 
 -- a token that begins an operand is no closing bracket, nor another kind that begins none
-pub not_start : (k c : TokenKind) → start_of c ≡ no_start → IsStart (start_of k) → same_kind k c ≡ false
+pub not_start : (k c : TokenKind) → operand_start c ≡ no_start → IsStart (operand_start k) → same_kind k c ≡ false
 not_start k c none h = by_test (same_kind k c) refl
   where
     by_test : (b : Bool) → same_kind k c ≡ b → b ≡ false
-    by_test true e = absurd (subst IsStart none (subst (λ x. IsStart (start_of x)) (same_kind_is k c e) h))
+    by_test true e = absurd (subst IsStart none (subst (λ x. IsStart (operand_start x)) (same_kind_is k c e) h))
     by_test false e = refl
 
 -- A state that takes one more token, which begins no operand, takes what begins one as the other state does.
-pub starts_run : (s next : State) (other : Lexeme → State) (c : TokenKind) → start_of c ≡ no_start
-    → ((t : Lexeme) (k : TokenKind) → turn s t k ≡ on (same_kind k c) (other t) (turn next t k))
-    → (ts : List Lexeme) → Starts ts → run (at s) ts ≡ run (at next) ts
+pub starts_run : (s next : State) (other : Lexeme → State) (c : TokenKind) → operand_start c ≡ no_start
+    → ((t : Lexeme) (k : TokenKind) → transition s t k ≡ on (same_kind k c) (other t) (transition next t k))
+    → (ts : List Lexeme) → Starts ts → read_tokens (at s) ts ≡ read_tokens (at next) ts
 starts_run s next other c none e [] h = absurd h
 starts_run s next other c none e (t ∷ ts) h =
-    run_same s next t ts (e t t.kind ∙ ap (λ b. on b (other t) (turn next t t.kind)) (not_start t.kind c none h))
+    run_same s next t ts (e t t.kind ∙ ap (λ b. on b (other t) (transition next t t.kind)) (not_start t.kind c none h))
 
 pub stops_just : (k : TokenKind) (level : ℕ) → tightness k ≤ level → (ts : List Lexeme) → Just k ts
     → (rest : List Lexeme) → Stops level (ts ++ rest)

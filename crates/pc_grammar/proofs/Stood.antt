@@ -4,16 +4,16 @@ use Rattle.std.proofs.Common.{ap₂, sym, ◌∙◌, append-nil, leb-true}
 use Rattle.pc_token.specs.declared.token.TokenKind.{TokenKind}
 use Rattle.pc_token.specs.declared.token.TokenKind.TheVariants as kind
 use Rattle.pc_token.specs.Lexeme.{Lexeme}
-use Rattle.pc_grammar.specs.Grammar.{Spelling, Sequence, ◌⟫◌, Just, IsName, Nothing, name_at}
+use Rattle.pc_grammar.specs.Grammar.{Spelling, Sequence, ◌⟫◌, Just, IsName, Nothing, name_of_token}
 use Rattle.pc_grammar.specs.Machine.Kinds.{same_kind}
-use Rattle.pc_grammar.specs.Machine.States.{State, Turn, stuck, go, on}
+use Rattle.pc_grammar.specs.Machine.States.{State, Transition, stuck, go, on}
 use Rattle.pc_grammar.specs.Machine.Expressions.{if_tight}
 use Rattle.pc_grammar.specs.Fronts.{LedTo}
 use Rattle.pc_grammar.specs.Fronts.Lines.{Kept, JustAt}
 use Rattle.pc_grammar.proofs.SameKind.{same_kind_is}
 use Rattle.pc_grammar.proofs.Sequences.{to_right, map_right}
 
-abbrev pub Stood : Turn → Spelling
+abbrev pub Stood : Transition → Spelling
 Stood stuck ts = Unit {0}
 Stood (go s) ts = LedTo s ts
 
@@ -27,22 +27,22 @@ just t k e = (t, e, refl)
 pub just_at : (t : Lexeme) (k : TokenKind) → t.kind ≡ k → JustAt k t.place (t ∷ [])
 just_at t k e = (t, e, refl, refl)
 
-pub is_name : (t : Lexeme) → t.kind ≡ kind.Name → IsName (name_at t) (t ∷ [])
+pub is_name : (t : Lexeme) → t.kind ≡ kind.Name → IsName (name_of_token t) (t ∷ [])
 is_name t e = (t, e, refl, refl)
 
 -- ---- choices
 
-pub stood_on : (b : Bool) (s : State) (other : Turn) (ts : List Lexeme) → (b ≡ true → LedTo s ts) → Stood other ts
+pub stood_on : (b : Bool) (s : State) (other : Transition) (ts : List Lexeme) → (b ≡ true → LedTo s ts) → Stood other ts
     → Stood (on b s other) ts
 stood_on true s other ts holds otherwise = holds refl
 stood_on false s other ts holds otherwise = otherwise
 
-pub on_kind : (t : Lexeme) (k : TokenKind) (s : State) (other : Turn) (ts : List Lexeme) → (t.kind ≡ k → LedTo s ts)
+pub on_kind : (t : Lexeme) (k : TokenKind) (s : State) (other : Transition) (ts : List Lexeme) → (t.kind ≡ k → LedTo s ts)
     → Stood other ts → Stood (on (same_kind t.kind k) s other) ts
 on_kind t k s other ts holds otherwise = stood_on (same_kind t.kind k) s other ts (λ e. holds (same_kind_is t.kind k e))
     otherwise
 
-pub on_both : (t : Lexeme) (k : TokenKind) (b : Bool) (s : State) (other : Turn) (ts : List Lexeme)
+pub on_both : (t : Lexeme) (k : TokenKind) (b : Bool) (s : State) (other : Transition) (ts : List Lexeme)
     → (t.kind ≡ k → b ≡ true → LedTo s ts) → Stood other ts → Stood (on (same_kind t.kind k && b) s other) ts
 on_both t k b s other ts holds otherwise = by_test (same_kind t.kind k) refl b refl
   where
@@ -51,7 +51,7 @@ on_both t k b s other ts holds otherwise = by_test (same_kind t.kind k) refl b r
     by_test true e false f = otherwise
     by_test false e y f = otherwise
 
-pub on_tight : (low level : ℕ) (turn : Turn) (ts : List Lexeme) → (low ≤ level → Stood turn ts)
+pub on_tight : (low level : ℕ) (turn : Transition) (ts : List Lexeme) → (low ≤ level → Stood turn ts)
     → Stood (if_tight low level turn) ts
 on_tight low level turn ts holds = by_test (nat_le low level) refl
   where

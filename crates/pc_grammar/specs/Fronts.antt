@@ -9,7 +9,7 @@ use Rattle.pc_grammar.specs.Grammar.{Spelling, ◌⟫◌, Just, Sign, Word, IsNa
 use Rattle.pc_grammar.specs.Grammar.Annotations.{SpellsAnn}
 use Rattle.pc_grammar.specs.Grammar.Modules.{SpellsMembers, SpellsLiteral, Parameters, SpellsModule, IsFront}
 use Rattle.pc_grammar.specs.Machine.Kinds.{SpellsAllFixed}
-use Rattle.pc_grammar.specs.Machine.States.{ClassStart, of_class, of_module, Owner, DefStart, State, fixed, items}
+use Rattle.pc_grammar.specs.Machine.States.{ClassStart, of_class, of_module, FunctionOwner, DefStart, State, fixed, items}
 use Rattle.pc_grammar.specs.Machine.States.{importing, item_named, decorator_due, class_due, class_named, base_due}
 use Rattle.pc_grammar.specs.Machine.States.{members, def_due, self_read, param_due, param_named, params_read}
 use Rattle.pc_grammar.specs.Machine.States.{literal_due}
@@ -18,11 +18,11 @@ use Rattle.pc_grammar.specs.Machine.States.{part_due, part_named, part_read, arg
 use Rattle.pc_grammar.specs.Machine.States.{operand, have, denied, identified, unidentified, dotted, group_due}
 use Rattle.pc_grammar.specs.Machine.States.{item_due}
 use Rattle.pc_grammar.specs.Machine.States.{keyword_due, keyword_named, key_due, ended}
-use Rattle.pc_grammar.specs.Machine.Expressions.{rank}
+use Rattle.pc_grammar.specs.Machine.Expressions.{needed_level}
 use Rattle.pc_grammar.specs.Machine.Lines.{takes_header}
 use Rattle.pc_grammar.specs.Fronts.Lines.{WordAt, SignAt, Kept, AtStage, BeforeItems, BeforeOwner, ClassWord, ClassName}
 use Rattle.pc_grammar.specs.Fronts.Lines.{BeforeMembers, DefWord, BeforeParams, BeforeParam, ParamsRead, BeforeLiteral}
-use Rattle.pc_grammar.specs.Fronts.Lines.{BeforeStmts, IfBranches, BeforeAnn, Parts, SelfRead}
+use Rattle.pc_grammar.specs.Fronts.Lines.{BeforeStmts, IfBranches, BeforeAnn, BeforeUnionPart, SelfRead}
 use Rattle.pc_grammar.specs.Fronts.Expressions.{Before, Holds, ItemsBefore, KeywordsBefore, EntriesBefore}
 
 -- the tokens lead to this state
@@ -49,19 +49,19 @@ LedTo (stmts done b) = BeforeStmts done b
 LedTo (return_due site) = BeforeStmts site.done site.block ⟫ WordAt word.Return site.first
 LedTo (target_due site) = BeforeStmts site.done site.block ⟫ WordAt word.For site.first
 LedTo (after_branch bs site) = BeforeStmts site.done site.block ⟫ IfBranches site.first bs
-LedTo (part_due parts before s) = Parts parts before s
-LedTo (part_named n us parts before s) = Parts parts before s ⟫ Kept us (IsName n)
-LedTo (part_read a us parts before s) = Parts parts before s ⟫ Kept us (SpellsAnn a false)
-LedTo (argument_due head us parts before s) = Parts parts before s ⟫ Kept us (IsName head ⟫ Sign sign.LeftBracket)
-LedTo (empty_opened head us parts before s) = Parts parts before s
+LedTo (part_due parts before s) = BeforeUnionPart parts before s
+LedTo (part_named n us parts before s) = BeforeUnionPart parts before s ⟫ Kept us (IsName n)
+LedTo (part_read a us parts before s) = BeforeUnionPart parts before s ⟫ Kept us (SpellsAnn a false)
+LedTo (argument_due head us parts before s) = BeforeUnionPart parts before s ⟫ Kept us (IsName head ⟫ Sign sign.LeftBracket)
+LedTo (empty_opened head us parts before s) = BeforeUnionPart parts before s
     ⟫ Kept us ((IsName head ⟫ Sign sign.LeftBracket) ⟫ Sign sign.LeftParenthesis)
-LedTo (empty_closed head us parts before s) = Parts parts before s
+LedTo (empty_closed head us parts before s) = BeforeUnionPart parts before s
     ⟫ Kept us (((IsName head ⟫ Sign sign.LeftBracket) ⟫ Sign sign.LeftParenthesis) ⟫ Sign sign.RightParenthesis)
 LedTo (operand s) = Before s
-LedTo (have level p s) = λ ts. (rank s ≤ level) × (level ≤ 7) × (Before s ⟫ Holds level p) ts
-LedTo (denied p us s) = λ ts. (rank s ≤ 3) × ((Before s ⟫ Holds 4 p) ⟫ Kept us (Word word.Not)) ts
-LedTo (identified p us s) = λ ts. (rank s ≤ 3) × ((Before s ⟫ Holds 4 p) ⟫ Kept us (Word word.Is)) ts
-LedTo (unidentified p us s) = λ ts. (rank s ≤ 3) × ((Before s ⟫ Holds 4 p) ⟫ Kept us (Word word.Is ⟫ Word word.Not)) ts
+LedTo (have level p s) = λ ts. (needed_level s ≤ level) × (level ≤ 7) × (Before s ⟫ Holds level p) ts
+LedTo (denied p us s) = λ ts. (needed_level s ≤ 3) × ((Before s ⟫ Holds 4 p) ⟫ Kept us (Word word.Not)) ts
+LedTo (identified p us s) = λ ts. (needed_level s ≤ 3) × ((Before s ⟫ Holds 4 p) ⟫ Kept us (Word word.Is)) ts
+LedTo (unidentified p us s) = λ ts. (needed_level s ≤ 3) × ((Before s ⟫ Holds 4 p) ⟫ Kept us (Word word.Is ⟫ Word word.Not)) ts
 LedTo (dotted p us s) = (Before s ⟫ Holds 7 p) ⟫ Kept us (Sign sign.Dot)
 LedTo (group_due us s) = Before s ⟫ Kept us (Sign sign.LeftParenthesis)
 LedTo (item_due h xs us s) = Before s ⟫ Kept us (ItemsBefore h xs)

@@ -92,12 +92,12 @@ abbrev pub Word : Keyword → Spelling
 Word w = Just (kind.Keyword w)
 
 -- the name that the token is, in the form by which names are compared
-abbrev pub name_at : Lexeme → Name
-name_at t = record { place = t.place; text = t.form }
+abbrev pub name_of_token : Lexeme → Name
+name_of_token t = record { place = t.place; text = t.form }
 
 -- one token, this name at its place
 abbrev pub IsName : Name → Spelling
-IsName n ts = (t : Lexeme) × (t.kind ≡ kind.Name) × (n ≡ name_at t) × (ts ≡ t ∷ [])
+IsName n ts = (t : Lexeme) × (t.kind ≡ kind.Name) × (n ≡ name_of_token t) × (ts ≡ t ∷ [])
 
 -- the name of this form
 abbrev pub Named : List ℕ → Spelling

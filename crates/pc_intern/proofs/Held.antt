@@ -23,16 +23,16 @@ use Rattle.pc_intern.specs.declared.memo.Joined.{Joined}
 use Rattle.pc_intern.specs.declared.store.TypeId.{TypeId}
 use Rattle.pc_intern.specs.declared.table.TypeNode.{TypeNode}
 use Rattle.pc_intern.specs.Table.{tree_at, IsNodeAt, Grows}
-use Rattle.pc_intern.specs.Store.{meaning, number_of, IsHeld, IsRightAt, AreRight, IsJoinedAt, AreJoined}
+use Rattle.pc_intern.specs.Store.{tree_of_type, number_of, IsInterned, IsRightAt, AreRight, IsJoinedAt, AreJoined}
 use Rattle.pc_intern.proofs.Places.{map_at, at_map, same_items}
 use Rattle.pc_intern.proofs.Standing.{tree_stays, trees_stay}
 use Rattle.pc_types.specs.Internal.Rebuilding.{rebuilt}
 use Rattle.pc_types.proofs.Rebuilt.{rebuilt_is}
 
 -- a type is held still where types are put after the others
-pub held_stays : (old new : List BoxType) → Grows old new → (ty : TypeId) → IsHeld old ty → IsHeld new ty
+pub held_stays : (old new : List BoxType) → Grows old new → (ty : TypeId) → IsInterned old ty → IsInterned new ty
 held_stays old new g ty h =
-    record { at = rw g.is (tree_stays old g.added ty.number (meaning ty) h.at); normal = h.normal; small = h.small }
+    record { at = rw g.is (tree_stays old g.added ty.number (tree_of_type ty) h.at); normal = h.normal; small = h.small }
 
 -- right answers stay right
 right_stays : (bases : Bases) (old new : List BoxType) → Grows old new → (o : Option Answers) → IsRightAt bases old o
@@ -95,18 +95,18 @@ within types n t h =
     slice_get_within types n b.0 b.1
 
 -- a held type at a number means the number's tree
-pub meant : (types : List BoxType) (r : TypeId) (n : ℕ) (t : Tree) → IsHeld types r → r.number ≡ n
-    → tree_at types n ≡ Some t → meaning r ≡ t
+pub meant : (types : List BoxType) (r : TypeId) (n : ℕ) (t : Tree) → IsInterned types r → r.number ≡ n
+    → tree_at types n ≡ Some t → tree_of_type r ≡ t
 meant types r n t h e at =
-    let q : tree_at types n ≡ Some (meaning r) = subst (λ k. tree_at types k ≡ Some (meaning r)) e h.at in
+    let q : tree_at types n ≡ Some (tree_of_type r) = subst (λ k. tree_at types k ≡ Some (tree_of_type r)) e h.at in
     cc
 
 -- the numbers of the parts of a type of the table are those of the parts of what it means
-pub part_numbers : (types : List BoxType) (ty : TypeId) (ps : List ℕ) → IsHeld types ty
+pub part_numbers : (types : List BoxType) (ty : TypeId) (ps : List ℕ) → IsInterned types ty
     → ((b : BoxType) → slice_get types ty.number ≡ Some b → map (tree_at types) ps ≡ map Some (parts (tree_of b)))
-    → map (tree_at types) ps ≡ map Some (parts (meaning ty))
+    → map (tree_at types) ps ≡ map Some (parts (tree_of_type ty))
 part_numbers types ty ps h f =
-    let b = at_map tree_of types ty.number (meaning ty) h.at in
+    let b = at_map tree_of types ty.number (tree_of_type ty) h.at in
     f b.0 b.1 ∙ ap (λ t. map Some (parts t)) b.2
 
 -- the number of one part
@@ -130,9 +130,9 @@ as_many types (p ∷ ps) (u ∷ us) h =
     ap suc (as_many types ps us g)
 
 pub meant_more : (tys : List TypeId) (k : ℕ) (x : TypeId) → k < length tys → x ≡ get_or tys k x
-    → map meaning (take (k + 1) tys) ≡ map meaning (take k tys) ++ meaning x ∷ []
-meant_more tys k x l read = ap (map meaning) (take_more tys k x l ∙ ap (λ y. take k tys ++ y ∷ []) (sym read))
-    ∙ map-append meaning (take k tys) (x ∷ [])
+    → map tree_of_type (take (k + 1) tys) ≡ map tree_of_type (take k tys) ++ tree_of_type x ∷ []
+meant_more tys k x l read = ap (map tree_of_type) (take_more tys k x l ∙ ap (λ y. take k tys ++ y ∷ []) (sym read))
+    ∙ map-append tree_of_type (take k tys) (x ∷ [])
 
 -- one more type whose number is pushed
 pub numbered_more : (tys : List TypeId) (ps : List ℕ) (k : ℕ) (x : TypeId) → ps ≡ map number_of (take k tys)
@@ -142,70 +142,70 @@ numbered_more tys ps k x h l read =
     ∙ ap (λ y. take k tys ++ y ∷ []) (sym read)) ∙ map-append number_of (take k tys) (x ∷ []))
 
 -- the numbers of held types are those of what they mean
-pub numbered : (types : List BoxType) (tys : List TypeId) → All (IsHeld types) tys
-    → map (tree_at types) (map number_of tys) ≡ map Some (map meaning tys)
+pub numbered : (types : List BoxType) (tys : List TypeId) → All (IsInterned types) tys
+    → map (tree_at types) (map number_of tys) ≡ map Some (map tree_of_type tys)
 numbered types [] h = refl
 numbered types (t ∷ ts) h =
-    let a : tree_at types t.number ≡ Some (meaning t) = (All-head (IsHeld types) t ts h).at in
-    let b = numbered types ts (All-tail (IsHeld types) t ts h) in
+    let a : tree_at types t.number ≡ Some (tree_of_type t) = (All-head (IsInterned types) t ts h).at in
+    let b = numbered types ts (All-tail (IsInterned types) t ts h) in
     λ i. a i ∷ b i
 
 -- what a test of two held types says
-pub static_told : (bases : Bases) (types : List BoxType) (s t : TypeId) (r : Bool) → AreSmaller bases → IsHeld types s
-    → IsHeld types t → r ≡ static_test bases (meaning s) (meaning t) → IsTrue r ↔ Static bases (meaning s) (meaning t)
+pub static_told : (bases : Bases) (types : List BoxType) (s t : TypeId) (r : Bool) → AreSmaller bases → IsInterned types s
+    → IsInterned types t → r ≡ static_test bases (tree_of_type s) (tree_of_type t) → IsTrue r ↔ Static bases (tree_of_type s) (tree_of_type t)
 static_told bases types s t r smaller h g e =
-    subst (λ b. IsTrue b ↔ Static bases (meaning s) (meaning t)) (sym e)
-    (static_decided bases (meaning s) (meaning t) smaller h.normal g.normal)
+    subst (λ b. IsTrue b ↔ Static bases (tree_of_type s) (tree_of_type t)) (sym e)
+    (static_decided bases (tree_of_type s) (tree_of_type t) smaller h.normal g.normal)
 
 pub assignable_told : (bases : Bases) (types : List BoxType) (s t : TypeId) (r : Bool) → AreSmaller bases
-    → IsHeld types s → IsHeld types t → r ≡ assignable_test bases (meaning s) (meaning t) → IsTrue r
-    ↔ Assignable bases (meaning s) (meaning t)
+    → IsInterned types s → IsInterned types t → r ≡ assignable_test bases (tree_of_type s) (tree_of_type t) → IsTrue r
+    ↔ Assignable bases (tree_of_type s) (tree_of_type t)
 assignable_told bases types s t r smaller h g e =
-    subst (λ b. IsTrue b ↔ Assignable bases (meaning s) (meaning t)) (sym e)
-    (assignable_decided bases (meaning s) (meaning t) smaller h.normal g.normal)
+    subst (λ b. IsTrue b ↔ Assignable bases (tree_of_type s) (tree_of_type t)) (sym e)
+    (assignable_decided bases (tree_of_type s) (tree_of_type t) smaller h.normal g.normal)
 
 -- a type in boxes of the table means what the held type of its number means
-pub box_means : (types : List BoxType) (ty : TypeId) (b : BoxType) → IsHeld types ty
-    → slice_get types ty.number ≡ Some b → tree_of b ≡ meaning ty
+pub box_means : (types : List BoxType) (ty : TypeId) (b : BoxType) → IsInterned types ty
+    → slice_get types ty.number ≡ Some b → tree_of b ≡ tree_of_type ty
 box_means types ty b h at =
     let q = map_at tree_of types ty.number b at in
-    let e : Some (meaning ty) ≡ Some (tree_of b) = sym h.at ∙ q in
+    let e : Some (tree_of_type ty) ≡ Some (tree_of b) = sym h.at ∙ q in
     cc
 
 -- what a held type means that a node tells
-told_meaning : (types : List BoxType) (node : TypeNode) (n : ℕ) (r : TypeId) (w : IsNodeAt types node n) → IsHeld types r
-    → r.number ≡ n → meaning r ≡ tree_of w.ty
+told_meaning : (types : List BoxType) (node : TypeNode) (n : ℕ) (r : TypeId) (w : IsNodeAt types node n) → IsInterned types r
+    → r.number ≡ n → tree_of_type r ≡ tree_of w.ty
 told_meaning types node n r w h e = meant types r n (tree_of w.ty) h e (map_at tree_of types n w.ty w.at)
 
 pub known_parts : (types : List BoxType) (node : TypeNode) (n : ℕ) (r : TypeId) (us : List Tree) → IsNodeAt types node n
-    → IsHeld types r → r.number ≡ n → map (tree_at types) node.parts.items ≡ map Some us → parts (meaning r) ≡ us
+    → IsInterned types r → r.number ≡ n → map (tree_at types) node.parts.items ≡ map Some us → parts (tree_of_type r) ≡ us
 known_parts types node n r us w h e k =
     ap parts (told_meaning types node n r w h e) ∙ same_items (parts (tree_of w.ty)) us (sym w.told.parts ∙ k)
 
 -- a held type with a head and parts is one that a call may answer
-pub known_as : (types : List BoxType) (r : TypeId) (head : Head) (us : List Tree) → IsHeld types r
-    → head_of (meaning r) ≡ head → parts (meaning r) ≡ us → IsHeld types r × (meaning r ≡ rebuilt head us)
+pub known_as : (types : List BoxType) (r : TypeId) (head : Head) (us : List Tree) → IsInterned types r
+    → head_of (tree_of_type r) ≡ head → parts (tree_of_type r) ≡ us → IsInterned types r × (tree_of_type r ≡ rebuilt head us)
     × (nodes (rebuilt head us) ≤ node_limit)
 known_as types r head us h e p =
-    let q : meaning r ≡ rebuilt head us = sym (rebuilt_is (meaning r) h.normal) ∙ (λ i. rebuilt (e i) (p i)) in
+    let q : tree_of_type r ≡ rebuilt head us = sym (rebuilt_is (tree_of_type r) h.normal) ∙ (λ i. rebuilt (e i) (p i)) in
     (h, q, subst (λ t. nodes t ≤ node_limit) q h.small)
 
 -- the same where the table is told by what the store is seen as
-pub means_now : (types now : List BoxType) (ty : TypeId) (b : BoxType) → types ≡ now → IsHeld now ty
-    → slice_get types ty.number ≡ Some b → tree_of b ≡ meaning ty
-means_now types now ty b e h at = box_means types ty b (subst (λ l. IsHeld l ty) (sym e) h) at
+pub means_now : (types now : List BoxType) (ty : TypeId) (b : BoxType) → types ≡ now → IsInterned now ty
+    → slice_get types ty.number ≡ Some b → tree_of b ≡ tree_of_type ty
+means_now types now ty b e h at = box_means types ty b (subst (λ l. IsInterned l ty) (sym e) h) at
 
-pub held_within : (types now : List BoxType) (ty : TypeId) → types ≡ now → IsHeld now ty → ty.number < length types
+pub held_within : (types now : List BoxType) (ty : TypeId) → types ≡ now → IsInterned now ty → ty.number < length types
 held_within types now ty e h = subst (λ (l : List BoxType). ty.number < length l) (sym e)
-    (within now ty.number (meaning ty) h.at)
+    (within now ty.number (tree_of_type ty) h.at)
 
 -- the numbers of one held type, and of two
-pub one_number : (types : List BoxType) (ns : List ℕ) (ty : TypeId) → ns ≡ ty.number ∷ [] → IsHeld types ty
-    → map (tree_at types) ns ≡ map Some (meaning ty ∷ [])
+pub one_number : (types : List BoxType) (ns : List ℕ) (ty : TypeId) → ns ≡ ty.number ∷ [] → IsInterned types ty
+    → map (tree_at types) ns ≡ map Some (tree_of_type ty ∷ [])
 one_number types ns ty e h = ap (map (tree_at types)) e ∙ ap (λ o. o ∷ []) h.at
 
-pub two_numbers : (types : List BoxType) (ns : List ℕ) (s t : TypeId) → ns ≡ s.number ∷ t.number ∷ [] → IsHeld types s
-    → IsHeld types t → map (tree_at types) ns ≡ map Some (meaning s ∷ meaning t ∷ [])
+pub two_numbers : (types : List BoxType) (ns : List ℕ) (s t : TypeId) → ns ≡ s.number ∷ t.number ∷ [] → IsInterned types s
+    → IsInterned types t → map (tree_at types) ns ≡ map Some (tree_of_type s ∷ tree_of_type t ∷ [])
 two_numbers types ns s t e h g = ap (map (tree_at types)) e ∙ (λ i. h.at i ∷ g.at i ∷ [])
 
 -- no type is made of a tree that is too large
@@ -218,7 +218,7 @@ answer_none (Some c) s t e q h = cc
 -- a type that is made means the tree
 pub answer_some : (types : List BoxType) (o : Option BoxType) (b : BoxType) (r : TypeId) (s t : Tree) → o ≡ Some b
     → s ≡ t → MatchOption o (node_limit < nodes s) (λ c. IsGiven c × (tree_of c ≡ s) × (nodes s ≤ node_limit))
-    → IsHeld types r × (meaning r ≡ tree_of b) → IsHeld types r × (meaning r ≡ t) × (nodes t ≤ node_limit)
+    → IsInterned types r × (tree_of_type r ≡ tree_of b) → IsInterned types r × (tree_of_type r ≡ t) × (nodes t ≤ node_limit)
 answer_some types None b r s t e q h g = cc
 answer_some types (Some c) b r s t e q h g =
     let f : c ≡ b = cc in
@@ -231,8 +231,8 @@ joined_none None x y e q h = sym q ∙ h
 joined_none (Some u) x y e q h = cc
 
 pub joined_some : (types : List BoxType) (o : Option BoxType) (b : BoxType) (r : TypeId) (x y : Option Tree)
-    → o ≡ Some b → x ≡ y → MatchOption o (x ≡ None) (λ u. IsGiven u × (x ≡ Some (tree_of u))) → IsHeld types r
-    × (meaning r ≡ tree_of b) → IsHeld types r × (y ≡ Some (meaning r))
+    → o ≡ Some b → x ≡ y → MatchOption o (x ≡ None) (λ u. IsGiven u × (x ≡ Some (tree_of u))) → IsInterned types r
+    × (tree_of_type r ≡ tree_of b) → IsInterned types r × (y ≡ Some (tree_of_type r))
 joined_some types None b r x y e q h g = cc
 joined_some types (Some u) b r x y e q h g =
     let f : u ≡ b = cc in
@@ -240,12 +240,12 @@ joined_some types (Some u) b r x y e q h g =
 
 -- one more type in boxes that means what a held type means
 pub boxed_more : (types now : List BoxType) (tys : List TypeId) (bs : List BoxType) (k : ℕ) (x : TypeId) (b c : BoxType)
-    → types ≡ now → All (IsHeld now) tys → k < length tys → x ≡ get_or tys k x → slice_get types x.number ≡ Some b
-    → tree_of c ≡ tree_of b → map tree_of bs ≡ map meaning (take k tys) → map tree_of (bs ++ c ∷ []) ≡ map meaning
+    → types ≡ now → All (IsInterned now) tys → k < length tys → x ≡ get_or tys k x → slice_get types x.number ≡ Some b
+    → tree_of c ≡ tree_of b → map tree_of bs ≡ map tree_of_type (take k tys) → map tree_of (bs ++ c ∷ []) ≡ map tree_of_type
     (take (k + 1) tys)
 boxed_more types now tys bs k x b c e all l read at same h =
-    let g : IsHeld now x = subst (IsHeld now) (sym read) (All-get_or (IsHeld now) tys k x l all) in
-    let q : tree_of c ≡ meaning x = same ∙ means_now types now x b e g at in
+    let g : IsInterned now x = subst (IsInterned now) (sym read) (All-get_or (IsInterned now) tys k x l all) in
+    let q : tree_of c ≡ tree_of_type x = same ∙ means_now types now x b e g at in
     map-append tree_of bs (c ∷ []) ∙ (λ i. h i ++ q i ∷ []) ∙ sym (meant_more tys k x l read)
 
 -- the number of a part that a loop comes to
@@ -255,15 +255,15 @@ number_in types ps us k h l = number_at types ps us k 0 h (omega (arith, as_many
 
 -- one more held type whose number is the next
 pub more_parts : (types : List BoxType) (rs : List TypeId) (r : TypeId) (ps : List ℕ) (k : ℕ)
-    → map Some (map meaning rs) ≡ map (tree_at types) (take k ps) → k < length ps → IsHeld types r
-    → r.number ≡ get_or ps k 0 → map Some (map meaning (rs ++ r ∷ [])) ≡ map (tree_at types) (take (k + 1) ps)
+    → map Some (map tree_of_type rs) ≡ map (tree_at types) (take k ps) → k < length ps → IsInterned types r
+    → r.number ≡ get_or ps k 0 → map Some (map tree_of_type (rs ++ r ∷ [])) ≡ map (tree_at types) (take (k + 1) ps)
 more_parts types rs r ps k h l g num =
-    let q : map Some (map meaning (rs ++ r ∷ [])) ≡ map Some (map meaning rs) ++ Some (meaning r) ∷ [] =
-    ap (map Some) (map-append meaning rs (r ∷ [])) ∙ map-append Some (map meaning rs) (meaning r ∷ []) in
+    let q : map Some (map tree_of_type (rs ++ r ∷ [])) ≡ map Some (map tree_of_type rs) ++ Some (tree_of_type r) ∷ [] =
+    ap (map Some) (map-append tree_of_type rs (r ∷ [])) ∙ map-append Some (map tree_of_type rs) (tree_of_type r ∷ []) in
     let t : map (tree_at types) (take (k + 1) ps) ≡ map (tree_at types) (take k ps) ++ tree_at types (get_or ps k 0)
     ∷ [] = ap (map (tree_at types)) (take_more ps k 0 l) ∙ map-append (tree_at types) (take k ps)
     (get_or ps k 0 ∷ []) in
-    let e : Some (meaning r) ≡ tree_at types (get_or ps k 0) = sym g.at ∙ ap (tree_at types) num in
+    let e : Some (tree_of_type r) ≡ tree_at types (get_or ps k 0) = sym g.at ∙ ap (tree_at types) num in
     q ∙ (λ i. h i ++ e i ∷ []) ∙ sym t
 
 -- members by the head: none of Never, the parts of a union, else the type itself

@@ -11,7 +11,7 @@ use Rattle.pc_types.specs.declared.boxed.BoxType.{BoxType}
 use Rattle.pc_intern.specs.declared.memo.Joined.{Joined}
 use Rattle.pc_intern.specs.declared.store.TypeId.{TypeId}
 use Rattle.pc_intern.specs.Table.{tree_at}
-use Rattle.pc_intern.specs.Store.{meaning, number_of, IsHeld, IsJoined}
+use Rattle.pc_intern.specs.Store.{tree_of_type, number_of, IsInterned, IsJoined}
 use Rattle.pc_intern.proofs.AtOnce.{never_join}
 use Rattle.pc_intern.proofs.Held.{within, numbered, two_numbers}
 use Rattle.pc_intern.proofs.Places.{same_items}
@@ -54,24 +54,24 @@ joined_as o x y e h = subst (λ z. MatchOption o (z ≡ None) (λ u. IsGiven u �
 
 -- a join of held types may be kept
 pub many_kept : (bases : Bases) (types : List BoxType) (tys : List TypeId) (j : Joined) (u : TypeId)
-    → j.types.items ≡ map number_of tys → All (IsHeld types) tys → j.joined ≡ u.number → IsHeld types u
-    → meaning u ≡ types_joined bases (map meaning tys) → IsJoined bases types j
+    → j.types.items ≡ map number_of tys → All (IsInterned types) tys → j.joined ≡ u.number → IsInterned types u
+    → tree_of_type u ≡ types_joined bases (map tree_of_type tys) → IsJoined bases types j
 many_kept bases types tys j u e h f g m =
     record {
-      trees = map meaning tys;
+      trees = map tree_of_type tys;
       at_types = ap (map (tree_at types)) e ∙ numbered types tys h;
       at_joined = ap (tree_at types) f ∙ g.at ∙ ap Some m;
     }
 
 -- so may that of two held types
 pub two_kept : (bases : Bases) (types : List BoxType) (s t : TypeId) (j : Joined) (u : TypeId)
-    → j.types.items ≡ s.number ∷ t.number ∷ [] → IsHeld types s → IsHeld types t → j.joined ≡ u.number
-    → IsHeld types u → join bases (meaning s) (meaning t) ≡ Some (meaning u) → IsJoined bases types j
+    → j.types.items ≡ s.number ∷ t.number ∷ [] → IsInterned types s → IsInterned types t → j.joined ≡ u.number
+    → IsInterned types u → join bases (tree_of_type s) (tree_of_type t) ≡ Some (tree_of_type u) → IsJoined bases types j
 two_kept bases types s t j u e h k f g m =
     record {
-      trees = meaning s ∷ meaning t ∷ [];
+      trees = tree_of_type s ∷ tree_of_type t ∷ [];
       at_types = two_numbers types j.types.items s t e h k;
-      at_joined = ap (tree_at types) f ∙ g.at ∙ ap Some (sym (two_joined bases (meaning s) (meaning t) h.small
+      at_joined = ap (tree_at types) f ∙ g.at ∙ ap Some (sym (two_joined bases (tree_of_type s) (tree_of_type t) h.small
           ∙ ap (λ o. unwrap_or o Object) m));
     }
 

@@ -12,7 +12,7 @@ use Rattle.pc_types.specs.JoinedTypes.{joined_onto, types_joined}
 use Rattle.pc_types.specs.declared.boxed.BoxType.{BoxType}
 use Rattle.pc_intern.specs.declared.store.TypeId.{TypeId}
 use Rattle.pc_intern.specs.Table.{tree_at}
-use Rattle.pc_intern.specs.Store.{IsHeld, meaning}
+use Rattle.pc_intern.specs.Store.{IsInterned, tree_of_type}
 use Rattle.pc_intern.proofs.AtOnce.{never_join}
 use Rattle.pc_intern.proofs.Held.{meant}
 use Rattle.pc_types.proofs.JoinItself.{join_itself}
@@ -31,21 +31,21 @@ numbered_so n tys k x l read e h =
 module _ (bases : Bases) (types : List BoxType) (n : ℕ) (t : Tree) (at : tree_at types n ≡ Some t)
     (l : nodes t ≤ node_limit) where
   -- types of a number joined to the type of that number
-  joined_so : (tys : List TypeId) → All (IsHeld types) tys → All (HasNumber n) tys
-      → t ≡ joined_onto bases t (map meaning tys)
+  joined_so : (tys : List TypeId) → All (IsInterned types) tys → All (HasNumber n) tys
+      → t ≡ joined_onto bases t (map tree_of_type tys)
   joined_so [] h e = refl
   joined_so (x ∷ xs) h e =
-      let m = meant types x n t (All-head (IsHeld types) x xs h) (All-head (HasNumber n) x xs e) at in
-      joined_so xs (All-tail (IsHeld types) x xs h) (All-tail (HasNumber n) x xs e)
-      ∙ sym (ap (λ (o : Option Tree). joined_onto bases (unwrap_or o Object) (map meaning xs))
-      (join_itself bases t (meaning x) (sym m) l))
+      let m = meant types x n t (All-head (IsInterned types) x xs h) (All-head (HasNumber n) x xs e) at in
+      joined_so xs (All-tail (IsInterned types) x xs h) (All-tail (HasNumber n) x xs e)
+      ∙ sym (ap (λ (o : Option Tree). joined_onto bases (unwrap_or o Object) (map tree_of_type xs))
+      (join_itself bases t (tree_of_type x) (sym m) l))
 
   -- at least one type, and all of one number
-  pub types_so : (tys : List TypeId) → 0 < length tys → All (IsHeld types) tys → All (HasNumber n) tys
-      → t ≡ types_joined bases (map meaning tys)
+  pub types_so : (tys : List TypeId) → 0 < length tys → All (IsInterned types) tys → All (HasNumber n) tys
+      → t ≡ types_joined bases (map tree_of_type tys)
   types_so [] p h e = absurd (omega arith)
   types_so (x ∷ xs) p h e =
-      let m = meant types x n t (All-head (IsHeld types) x xs h) (All-head (HasNumber n) x xs e) at in
-      joined_so xs (All-tail (IsHeld types) x xs h) (All-tail (HasNumber n) x xs e)
-      ∙ sym (ap (λ (o : Option Tree). joined_onto bases (unwrap_or o Object) (map meaning xs))
+      let m = meant types x n t (All-head (IsInterned types) x xs h) (All-head (HasNumber n) x xs e) at in
+      joined_so xs (All-tail (IsInterned types) x xs h) (All-tail (HasNumber n) x xs e)
+      ∙ sym (ap (λ (o : Option Tree). joined_onto bases (unwrap_or o Object) (map tree_of_type xs))
       (ap (join bases Never) m ∙ never_join bases t l))

@@ -17,18 +17,18 @@ use Rattle.pc_intern.specs.declared.memo.Joined.{Joined}
 use Rattle.pc_intern.specs.declared.store.TypeId.{TypeId}
 
 -- the tree that a type means
-abbrev pub meaning : TypeId → Tree
-meaning t = tree_of t.meaning.value
+abbrev pub tree_of_type : TypeId → Tree
+tree_of_type t = tree_of t.meaning.value
 
 -- the number of a type
 abbrev pub number_of : TypeId → ℕ
 number_of t = t.number
 
 -- the type's number is that of its meaning, which is in normal form and has at most 256 nodes
-pub record IsHeld (types : List BoxType) (t : TypeId) : Type 0 where
-  pub at : tree_at types t.number ≡ Some (meaning t)
-  pub normal : IsNormal (meaning t)
-  pub small : nodes (meaning t) ≤ node_limit
+pub record IsInterned (types : List BoxType) (t : TypeId) : Type 0 where
+  pub at : tree_at types t.number ≡ Some (tree_of_type t)
+  pub normal : IsNormal (tree_of_type t)
+  pub small : nodes (tree_of_type t) ≤ node_limit
 
 -- the results are those of comparing the trees of the two numbers
 pub record IsRight (bases : Bases) (types : List BoxType) (a : Answers) : Type 0 where

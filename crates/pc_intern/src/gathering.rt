@@ -4,7 +4,7 @@ ghost use Rattle.std.specs.Prelude.{◌≡◌, ◌⊎◌, [], ℕ, Contains, IfO
 ghost use Rattle.pc_types.specs.Tree.{Never, Object};
 ghost use Rattle.pc_types.specs.Join.{join};
 ghost use Rattle.pc_types.specs.Boxed.{tree_of};
-ghost use Rattle.pc_intern.specs.Store.{IsGathered, IsHeld, meaning};
+ghost use Rattle.pc_intern.specs.Store.{IsGathered, IsInterned, tree_of_type};
 
 use crate::alike::is_alike;
 use crate::store::{InternStore, TypeId};
@@ -72,11 +72,11 @@ impl InternStore {
         gathered: Gathered,
         ty: &TypeId,
     ) -> Result<Gathered, OutOfMemory>
-        requires ty { IsHeld self.now ty.now }
+        requires ty { IsInterned self.now ty.now }
         requires gathered { IsGathered parents.now self.now gathered }
         ensures gathered { IfOk result (IsGathered parents.now self.now) }
         ensures value { IfOk result (λ g. tree_of g.joined
-            ≡ unwrap_or (join parents.now (tree_of gathered.joined) (meaning ty.now)) Object) }
+            ≡ unwrap_or (join parents.now (tree_of gathered.joined) (tree_of_type ty.now)) Object) }
     {
         if is_among(&gathered.settled, ty.number) {
             return Ok(gathered);
@@ -107,11 +107,11 @@ impl InternStore {
         gathered: Gathered,
         ty: &TypeId,
     ) -> Result<Gathered, OutOfMemory>
-        requires ty { IsHeld self.now ty.now }
+        requires ty { IsInterned self.now ty.now }
         requires gathered { IsGathered parents.now self.now gathered }
         ensures gathered { IfOk result (IsGathered parents.now self.now) }
         ensures value { IfOk result (λ g. tree_of g.joined
-            ≡ unwrap_or (join parents.now (tree_of gathered.joined) (meaning ty.now)) Object) }
+            ≡ unwrap_or (join parents.now (tree_of gathered.joined) (tree_of_type ty.now)) Object) }
     {
         let Gathered {
             joined,

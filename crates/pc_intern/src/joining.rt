@@ -8,7 +8,7 @@ ghost use Rattle.pc_types.specs.Boxed.{tree_of, IsGiven};
 ghost use Rattle.pc_types.specs.Store.{Means, MeansAny, KeepsTypes};
 ghost use Rattle.pc_types.specs.JoinedTypes.{types_joined};
 ghost use Rattle.pc_intern.specs.Table.{tree_at};
-ghost use Rattle.pc_intern.specs.Store.{IsHeld, IsJoined, meaning};
+ghost use Rattle.pc_intern.specs.Store.{IsInterned, IsJoined, tree_of_type};
 
 use crate::gathering::Gathered;
 use crate::memo::Joined;
@@ -34,8 +34,8 @@ const MANY_NODES: usize = 16;
 impl InternStore {
     /// Returns whether a type of the store is `Never`.
     fn is_never(&self, ty: &TypeId) -> bool
-        requires { IsHeld self.now ty.now }
-        ensures { IsTrue result ↔ (meaning ty.now ≡ Never) }
+        requires { IsInterned self.now ty.now }
+        ensures { IsTrue result ↔ (tree_of_type ty.now ≡ Never) }
     {
         matches!(self.table.ty(ty.number), BoxType::Never)
     }
@@ -43,11 +43,11 @@ impl InternStore {
     /// Returns the join of two types if it is found without looking at their members: if they are equal, or one is
     /// `Never`.
     pub(crate) fn join_at_once(&self, s: &TypeId, t: &TypeId) -> Option<TypeId>
-        requires left { IsHeld self.now s.now }
-        requires right { IsHeld self.now t.now }
-        ensures held { IfSome result (IsHeld self.now) }
+        requires left { IsInterned self.now s.now }
+        requires right { IsInterned self.now t.now }
+        ensures held { IfSome result (IsInterned self.now) }
         ensures value { (bases : Bases)
-            → IfSome result (λ u. join bases (meaning s.now) (meaning t.now) ≡ Some (meaning u)) }
+            → IfSome result (λ u. join bases (tree_of_type s.now) (tree_of_type t.now) ≡ Some (tree_of_type u)) }
     {
         if self.is_same(s, t) || self.is_never(t) {
             return Some(self.held(s.number));
@@ -61,10 +61,10 @@ impl InternStore {
     /// Returns the join of several types that are all one and the same type, which is that type; `None` if they differ or
     /// there are none.
     pub(crate) fn same_joined(&self, types: &[TypeId]) -> Option<TypeId>
-        requires { All (IsHeld self.now) types.now }
-        ensures held { IfSome result (IsHeld self.now) }
+        requires { All (IsInterned self.now) types.now }
+        ensures held { IfSome result (IsInterned self.now) }
         ensures value { (bases : Bases)
-            → IfSome result (λ t. meaning t ≡ types_joined bases (map meaning types.now)) }
+            → IfSome result (λ t. tree_of_type t ≡ types_joined bases (map tree_of_type types.now)) }
     {
         let Some((first, others)) = types.split_first() else {
             return None;
@@ -86,7 +86,7 @@ impl InternStore {
     /// Returns whether the join of types is to be kept: there are many types or one has parts, and there are not too
     /// many.
     pub(crate) fn are_kept(&self, types: &[TypeId]) -> bool
-        requires { All (IsHeld self.now) types.now }
+        requires { All (IsInterned self.now) types.now }
     {
         let count = types.len();
         if count > MOST_TYPES {
@@ -101,8 +101,8 @@ impl InternStore {
 
     /// Returns whether the join of two types is to be kept: they are large.
     pub(crate) fn is_pair_kept(&self, s: &TypeId, t: &TypeId) -> bool
-        requires left { IsHeld self.now s.now }
-        requires right { IsHeld self.now t.now }
+        requires left { IsInterned self.now s.now }
+        requires right { IsInterned self.now t.now }
     {
         let (left, right) = (self.table.parts(s.number), self.table.parts(t.number));
         let mut size = left.len().saturating_add(right.len());
@@ -122,9 +122,9 @@ impl InternStore {
         parents: &Parents,
         types: &[TypeId],
     ) -> Result<BoxType, OutOfMemory>
-        requires { All (IsHeld self.now) types.now }
+        requires { All (IsInterned self.now) types.now }
         ensures given { IfOk result IsGiven }
-        ensures value { IfOk result (λ b. tree_of b ≡ types_joined parents.now (map meaning types.now)) }
+        ensures value { IfOk result (λ b. tree_of b ≡ types_joined parents.now (map tree_of_type types.now)) }
     {
         let mut gathered = Gathered::new(alloc);
         for ty in types {
@@ -140,10 +140,10 @@ impl InternStore {
         parents: &Parents,
         types: &[TypeId],
     ) -> Result<TypeId, OutOfMemory>
-        requires { All (IsHeld self.old) types.now }
+        requires { All (IsInterned self.old) types.now }
         ensures value { IfOk result
-            (λ t. Means IsHeld meaning self.new t (types_joined parents.now (map meaning types.now))) }
-        ensures kept { KeepsTypes IsHeld self.old self.new }
+            (λ t. Means IsInterned tree_of_type self.new t (types_joined parents.now (map tree_of_type types.now))) }
+        ensures kept { KeepsTypes IsInterned self.old self.new }
     {
         let joined = self.boxes_joined(alloc, parents, types)?;
         self.made(alloc, &joined)
@@ -157,10 +157,10 @@ impl InternStore {
         parents: &Parents,
         types: &[TypeId],
     ) -> Result<TypeId, OutOfMemory>
-        requires { All (IsHeld self.old) types.now }
+        requires { All (IsInterned self.old) types.now }
         ensures value { IfOk result
-            (λ t. Means IsHeld meaning self.new t (types_joined parents.now (map meaning types.now))) }
-        ensures kept { KeepsTypes IsHeld self.old self.new }
+            (λ t. Means IsInterned tree_of_type self.new t (types_joined parents.now (map tree_of_type types.now))) }
+        ensures kept { KeepsTypes IsInterned self.old self.new }
     {
         let types_of = self.numbers(alloc, types)?;
         if let Some(kept) = self.kept_join(parents, &types_of) {
@@ -187,11 +187,11 @@ impl InternStore {
         s: &TypeId,
         t: &TypeId,
     ) -> Result<Option<TypeId>, OutOfMemory>
-        requires left { IsHeld self.old s.now }
-        requires right { IsHeld self.old t.now }
+        requires left { IsInterned self.old s.now }
+        requires right { IsInterned self.old t.now }
         ensures value { IfOk result
-            (λ u. MeansAny IsHeld meaning self.new u (join parents.now (meaning s.now) (meaning t.now))) }
-        ensures kept { KeepsTypes IsHeld self.old self.new }
+            (λ u. MeansAny IsInterned tree_of_type self.new u (join parents.now (tree_of_type s.now) (tree_of_type t.now))) }
+        ensures kept { KeepsTypes IsInterned self.old self.new }
     {
         let types = Numbers::from_slice(alloc, &[s.number, t.number])?;
         if let Some(kept) = self.kept_pair(parents, s, t, &types) {
@@ -214,11 +214,11 @@ impl InternStore {
         s: &TypeId,
         t: &TypeId,
     ) -> Result<Option<BoxType>, OutOfMemory>
-        requires left { IsHeld self.now s.now }
-        requires right { IsHeld self.now t.now }
+        requires left { IsInterned self.now s.now }
+        requires right { IsInterned self.now t.now }
         ensures { IfOk result (λ o.
-            MatchOption o (join parents.now (meaning s.now) (meaning t.now) ≡ None)
-            (λ u. IsGiven u × (join parents.now (meaning s.now) (meaning t.now) ≡ Some (tree_of u)))) }
+            MatchOption o (join parents.now (tree_of_type s.now) (tree_of_type t.now) ≡ None)
+            (λ u. IsGiven u × (join parents.now (tree_of_type s.now) (tree_of_type t.now) ≡ Some (tree_of u)))) }
     {
         let (s, t) = (self.table.ty(s.number), self.table.ty(t.number));
         Ok(BoxStore::new().join(alloc, parents, s, t)?)
@@ -226,17 +226,17 @@ impl InternStore {
 
     /// Returns whether a type of the store is `object`.
     fn is_object(&self, ty: &TypeId) -> bool
-        requires { IsHeld self.now ty.now }
-        ensures { meaning ty.now ≡ Object → IsTrue result }
+        requires { IsInterned self.now ty.now }
+        ensures { tree_of_type ty.now ≡ Object → IsTrue result }
     {
         matches!(self.table.ty(ty.number), BoxType::Object)
     }
 
     /// Returns the join of types, given by their numbers, if the store has kept it under the same parents.
     fn kept_join(&self, parents: &Parents, types: &Numbers) -> Option<TypeId>
-        ensures held { IfSome result (IsHeld self.now) }
+        ensures held { IfSome result (IsInterned self.now) }
         ensures value { (us : List Tree) → map (tree_at self.now) types.now.items ≡ map Some us
-            → IfSome result (λ t. meaning t ≡ types_joined parents.now us) }
+            → IfSome result (λ t. tree_of_type t ≡ types_joined parents.now us) }
     {
         let joined = self.joins.recall(types)?;
         if !self.parents.is_same(parents) {
@@ -253,12 +253,12 @@ impl InternStore {
         t: &TypeId,
         types: &Numbers,
     ) -> Option<TypeId>
-        requires left { IsHeld self.now s.now }
-        requires right { IsHeld self.now t.now }
+        requires left { IsInterned self.now s.now }
+        requires right { IsInterned self.now t.now }
         requires types { types.now.items ≡ s.now.number ∷ t.now.number ∷ [] }
-        ensures held { IfSome result (IsHeld self.now) }
+        ensures held { IfSome result (IsInterned self.now) }
         ensures value { IfSome result
-            (λ u. join parents.now (meaning s.now) (meaning t.now) ≡ Some (meaning u)) }
+            (λ u. join parents.now (tree_of_type s.now) (tree_of_type t.now) ≡ Some (tree_of_type u)) }
     {
         let kept = self.kept_join(parents, types)?;
         // `object` may be kept for two types without a join, as the join of several types.

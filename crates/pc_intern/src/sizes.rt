@@ -3,7 +3,7 @@
 ghost use Rattle.std.specs.Prelude.{◌<◌, All, IsTrue, map};
 ghost use Rattle.pc_types.specs.Tree.{TupleOf};
 ghost use Rattle.pc_types.specs.Shape.{nodes, node_limit, trees};
-ghost use Rattle.pc_intern.specs.Store.{IsHeld, meaning};
+ghost use Rattle.pc_intern.specs.Store.{IsInterned, tree_of_type};
 
 use crate::store::{InternStore, TypeId};
 use pc_types::{Head, TypeStore};
@@ -19,8 +19,8 @@ impl InternStore {
     /// Returns whether the memo is used for two types: there are few classes, or two unions with no fewer pairs of
     /// members.
     pub(crate) fn is_memo_asked(&self, s: &TypeId, t: &TypeId) -> bool
-        requires left { IsHeld self.now s.now }
-        requires right { IsHeld self.now t.now }
+        requires left { IsInterned self.now s.now }
+        requires right { IsInterned self.now t.now }
     {
         let classes = self.parents.count();
         match (self.table.head(s.number), self.table.head(t.number)) {
@@ -34,8 +34,8 @@ impl InternStore {
     /// Returns true only if a tuple of these types has more nodes than a type may have, so that none of them need be
     /// copied.
     pub(crate) fn is_tuple_large(&self, types: &[TypeId]) -> bool
-        requires { All (IsHeld self.now) types.now }
-        ensures { IsTrue result → node_limit < nodes (TupleOf (trees (map meaning types.now))) }
+        requires { All (IsInterned self.now) types.now }
+        ensures { IsTrue result → node_limit < nodes (TupleOf (trees (map tree_of_type types.now))) }
     {
         let mut nodes = 1;
         for ty in types {

@@ -9,7 +9,7 @@ ghost use Rattle.pc_types.specs.Store.{Means, KeepsTypes};
 ghost use Rattle.pc_types.specs.JoinedTypes.{types_joined};
 ghost use Rattle.pc_types.specs.Computed.{static_test, assignable_test};
 ghost use Rattle.pc_intern.specs.Table.{tree_at};
-ghost use Rattle.pc_intern.specs.Store.{IsHeld, IsRight, meaning, number_of};
+ghost use Rattle.pc_intern.specs.Store.{IsInterned, IsRight, tree_of_type, number_of};
 
 use crate::memo::{Answers, Joins, Memo};
 use crate::table::{Numbers, Table, TypeNode};
@@ -86,9 +86,9 @@ impl InternStore {
 
     /// Returns whether two types of the store are equal, by their numbers.
     pub fn is_same(&self, s: &TypeId, t: &TypeId) -> bool
-        requires left { IsHeld self.now s.now }
-        requires right { IsHeld self.now t.now }
-        ensures { IsTrue result ↔ (meaning s.now ≡ meaning t.now) }
+        requires left { IsInterned self.now s.now }
+        requires right { IsInterned self.now t.now }
+        ensures { IsTrue result ↔ (tree_of_type s.now ≡ tree_of_type t.now) }
     {
         self.table.stands_once();
         s.number == t.number
@@ -97,7 +97,7 @@ impl InternStore {
     /// Returns the type with this number.
     pub(crate) fn held(&self, number: usize) -> TypeId
         requires { number < length self.now }
-        ensures held { IsHeld self.now result }
+        ensures held { IsInterned self.now result }
         ensures number { result.number ≡ number }
     {
         TypeId {
@@ -109,8 +109,8 @@ impl InternStore {
     /// Returns a type of the store that means the tree of a boxed type.
     pub(crate) fn made(&mut self, alloc: Global, ty: &BoxType) -> Result<TypeId, OutOfMemory>
         requires { IsGiven ty.now }
-        ensures value { IfOk result (λ t. Means IsHeld meaning self.new t (tree_of ty.now)) }
-        ensures kept { KeepsTypes IsHeld self.old self.new }
+        ensures value { IfOk result (λ t. Means IsInterned tree_of_type self.new t (tree_of ty.now)) }
+        ensures kept { KeepsTypes IsInterned self.old self.new }
     {
         let number = self.table.intern(alloc, ty)?;
         Ok(TypeId {
@@ -121,10 +121,10 @@ impl InternStore {
 
     /// Returns the type with this head and parts with these numbers, if the store has it.
     fn known(&self, head: Head, numbers: Numbers) -> Option<TypeId>
-        ensures held { IfSome result (IsHeld self.now) }
-        ensures head { IfSome result (λ t. head_of (meaning t) ≡ head) }
+        ensures held { IfSome result (IsInterned self.now) }
+        ensures head { IfSome result (λ t. head_of (tree_of_type t) ≡ head) }
         ensures parts { (us : List Tree) → map (tree_at self.now) numbers.items ≡ map Some us
-            → IfSome result (λ t. parts (meaning t) ≡ us) }
+            → IfSome result (λ t. parts (tree_of_type t) ≡ us) }
     {
         let number = self.table.find(&TypeNode {
             head,
@@ -135,9 +135,9 @@ impl InternStore {
 
     /// Returns the numbers of types.
     pub(crate) fn numbers(&self, alloc: Global, types: &[TypeId]) -> Result<Numbers, OutOfMemory>
-        requires { All (IsHeld self.now) types.now }
+        requires { All (IsInterned self.now) types.now }
         ensures numbers { IfOk result (λ v. v.items ≡ map number_of types.now) }
-        ensures trees { IfOk result (λ v. map (tree_at self.now) v.items ≡ map Some (map meaning types.now)) }
+        ensures trees { IfOk result (λ v. map (tree_at self.now) v.items ≡ map Some (map tree_of_type types.now)) }
     {
         let mut numbers = Numbers::with_capacity(alloc, types.len())?;
         for ty in types {
@@ -148,9 +148,9 @@ impl InternStore {
 
     /// Returns boxed types with the same meaning as types of the store.
     fn boxes(&self, alloc: Global, types: &[TypeId]) -> Result<Vec<BoxType>, OutOfMemory>
-        requires { All (IsHeld self.now) types.now }
+        requires { All (IsInterned self.now) types.now }
         ensures given { IfOk result (λ v. All IsGiven v.items) }
-        ensures same { IfOk result (λ v. map tree_of v.items ≡ map meaning types.now) }
+        ensures same { IfOk result (λ v. map tree_of v.items ≡ map tree_of_type types.now) }
     {
         let store = BoxStore::new();
         let mut boxes = Vec::new(alloc);
@@ -163,12 +163,12 @@ impl InternStore {
     /// Compares two types by number or memo. The memo is used for types with parts, under the store's parents, if these
     /// are few. `None` if the types must be compared structurally.
     fn answers(&mut self, parents: &Parents, s: &TypeId, t: &TypeId) -> Option<Answers>
-        requires left { IsHeld self.old s.now }
-        requires right { IsHeld self.old t.now }
+        requires left { IsInterned self.old s.now }
+        requires right { IsInterned self.old t.now }
         ensures static_test { IfSome result
-            (λ a. a.is_static ≡ static_test parents.now (meaning s.now) (meaning t.now)) }
+            (λ a. a.is_static ≡ static_test parents.now (tree_of_type s.now) (tree_of_type t.now)) }
         ensures assignable_test { IfSome result
-            (λ a. a.is_assignable ≡ assignable_test parents.now (meaning s.now) (meaning t.now)) }
+            (λ a. a.is_assignable ≡ assignable_test parents.now (tree_of_type s.now) (tree_of_type t.now)) }
         ensures same { self.new ≡ self.old }
     {
         if self.is_same(s, t) {
@@ -198,11 +198,11 @@ impl InternStore {
 impl TypeStore for InternStore {
     type Ty = TypeId;
 
-    ghost use Rattle.pc_intern.specs.Store.{IsHeld, meaning};
+    ghost use Rattle.pc_intern.specs.Store.{IsInterned, tree_of_type};
 
-    ghost has = { IsHeld };
+    ghost has = { IsInterned };
 
-    ghost tree = { meaning };
+    ghost tree = { tree_of_type };
 
     ghost normal = { λ _ _ h. h.normal };
 

@@ -13,7 +13,7 @@ use Rattle.pc_layout.specs.Spelling.{first_byte}
 use Rattle.pc_layout.specs.Placing.{LayoutContext}
 use Rattle.pc_layout.specs.Stepping.{layout_lexemes, start, outrank, give, placed_line, step, after, dedents, indents}
 use Rattle.pc_layout.specs.TokenIterator.PendingTokens.{asks}
-use Rattle.pc_layout.specs.TokenIterator.Items.{line_item_of, token_item_of, Left}
+use Rattle.pc_layout.specs.TokenIterator.Items.{line_item_of, token_item_of, ItemsLeft}
 use Rattle.pc_layout.specs.TokenIterator.NextToken.{gives_next_token}
 use Rattle.pc_layout.specs.Answering.{lines_came, fault_came, AnswersLines, Refuses, LaysOut}
 use Rattle.pc_layout.specs.TokenIterator.Start.{IsAtStart}
@@ -98,7 +98,7 @@ module _ {I : Type 0} (steps : I → Option (Result Line Fault) → I → Type 0
 
   -- the tokens that come are those that are left
   pub comes_left : (s : LayoutTokens I) (xs : List (Result (Token (Bor (List ℕ))) Fault)) → Yields toks_gives s xs
-      → Left steps s.hand s.lines (map token_item_of xs)
+      → ItemsLeft steps s.hand s.lines (map token_item_of xs)
   comes_left s [] (t, (d, l)) = l
   comes_left s (Ok x ∷ xs) (j, g, cm) = g (map token_item_of xs) (comes_left j xs cm)
   comes_left s (Err e ∷ xs) (q, j, (d, l)) = rw q l

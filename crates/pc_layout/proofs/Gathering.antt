@@ -6,11 +6,11 @@ use Rattle.pc_source.specs.declared.fault.Fault.{Fault}
 use Rattle.pc_source.specs.declared.fault.Fault.TheVariants.{OutOfMemory}
 use Rattle.pc_source.specs.Stream.{Yields}
 use Rattle.pc_token.specs.declared.token.Line.{Line}
-use Rattle.pc_token.specs.Lexeme.{Lexeme, LogicalLine, line_of}
+use Rattle.pc_token.specs.Lexeme.{Lexeme, LogicalLine, logical_line_of}
 use Rattle.pc_layout.specs.Layouts.{IsLayout}
 use Rattle.pc_layout.specs.Stepping.{layout_lexemes, start, give}
 use Rattle.pc_layout.specs.TokenIterator.PendingTokens.{asks}
-use Rattle.pc_layout.specs.TokenIterator.Items.{line_item_of, Left}
+use Rattle.pc_layout.specs.TokenIterator.Items.{line_item_of, ItemsLeft}
 use Rattle.pc_layout.specs.Answering.{fault_came, Refuses}
 use Rattle.pc_layout.specs.TokenIterator.Start.{IsAtStart}
 use Rattle.pc_layout.specs.Internal.ListedLines.{lines_left, gives_line}
@@ -25,7 +25,7 @@ copies_come : (s : Listed) (ks : List (Result Line Fault)) → Yields gives_line
     → (map line_item_of ks ≡ came (lines_left s)) ⊎ (fault_came (map line_item_of ks) ≡ Some OutOfMemory)
 copies_come s [] (t, e) = inl (ap came (sym e.0))
 copies_come s (Ok l ∷ ks) (j, e, cm) = elim (copies_come j ks cm) [
-  | inl h ↦ inl (ap (λ z. Ok (line_of l) ∷ z) h ∙ ap came (sym e))
+  | inl h ↦ inl (ap (λ z. Ok (logical_line_of l) ∷ z) h ∙ ap came (sym e))
   | inr h ↦ inr h
 ]
 copies_come s (Err f ∷ ks) (q, j, e) = inr (ap Some e)
@@ -38,7 +38,7 @@ pub record Gathers (text : List ℕ) (ls : List LogicalLine) (ts : List Lexeme) 
   pub given : layout_lexemes text start items ≡ give ts ys
 
 pub gathers_first : (text : List ℕ) (it : Listed) (s : LayoutTokens Listed) (ys : List (Result Lexeme Fault))
-    → IsAtStart text it s → Left gives_line s.hand s.lines ys → Gathers text (lines_left it) [] ys
+    → IsAtStart text it s → ItemsLeft gives_line s.hand s.lines ys → Gathers text (lines_left it) [] ys
 gathers_first text it s ys b (inl h) = absurd (let q : true ≡ false = sym (ap asks b.due) ∙ h.0 in cc)
 gathers_first text it s ys b (inr (a, (ks, cm, p))) = record {
   items = map line_item_of ks;

@@ -7,8 +7,8 @@ use Rattle.pc_token.specs.declared.token.Operator.{Operator}
 use Rattle.pc_token.specs.declared.token.TokenKind.{TokenKind}
 use Rattle.pc_token.specs.Context.{LexicalContext, line_start, after_line_end, lexeme_at}
 use Rattle.pc_token.specs.Lexeme.{Lexeme, LogicalLine}
-use Rattle.pc_token.specs.Splitting.{Sort, Blanks, Comment, LineEnd, Lexical, Piece, FitsBySort, after_sort, Ending}
-use Rattle.pc_token.specs.Splitting.{Whole, Faulty, Splits, close_line, at_line_end, at_sort, items_of, HasLines}
+use Rattle.pc_token.specs.Splitting.{Sort, Blanks, Comment, LineEnd, Lexical, Piece, FitsBySort, after_sort, SplitEnd}
+use Rattle.pc_token.specs.Splitting.{Whole, Faulty, Splits, close_line, items_from_line_end, at_sort, items_of, HasLines}
 use Rattle.pc_token.proofs.Starts.{some_token}
 use Rattle.pc_layout.specs.Layouts.{StandInOrder, all_lexemes, HaveTokens, AreInOrder}
 
@@ -76,7 +76,7 @@ Behind done at items = (from : ℕ) → StandBetween from done at → (ls : List
 
 by_brackets : (brackets : List Operator) (c : LexicalContext) (bytes : List ℕ) (items : Items)
     → Behind (after_line_end brackets c bytes).done (after_line_end brackets c bytes).at items →
-    Behind c.done c.at (at_line_end brackets c items)
+    Behind c.done c.at (items_from_line_end brackets c items)
 by_brackets [] c bytes items behind from h ls e = closed c.start from c.at c.done items h
     (λ ms f. behind c.at (omega arith) ms f) ls e
 by_brackets (b ∷ bs) c bytes items behind from h ls e = behind from
@@ -108,7 +108,7 @@ no_refusal : (r : Refusal) (ls : List LogicalLine) → refused r ≡ map Ok ls �
 no_refusal r [] e = cc
 no_refusal r (l ∷ ls) e = cc
 
-walk : (ps : List Piece) (c : LexicalContext) (text : List ℕ) (ending : Ending) → Splits c ps text ending
+walk : (ps : List Piece) (c : LexicalContext) (text : List ℕ) (ending : SplitEnd) → Splits c ps text ending
     → Behind c.done c.at (items_of c ps ending)
 walk [] c text Whole s from h ls e = closed c.start from c.at c.done [] h (λ ms f. no_lines ms f c.at) ls e
 walk [] c text (Faulty code k) s from h ls e = absurd (no_refusal (record { code = code; byte = c.at + k }) ls e)

@@ -19,7 +19,7 @@ use Rattle.pc_source.specs.Within.{StandsWithin, IsWithin}
 use Rattle.pc_token.specs.declared.token.Line.{Line}
 use Rattle.pc_token.specs.declared.token.Token.{Token}
 use Rattle.pc_token.specs.declared.token.TokenKind.TheVariants.{Dedent}
-use Rattle.pc_token.specs.Lexeme.{Lexeme, LogicalLine, line_of}
+use Rattle.pc_token.specs.Lexeme.{Lexeme, LogicalLine, logical_line_of}
 use Rattle.pc_token.specs.Within.{AreWithin, LinesWithin}
 use Rattle.pc_layout.specs.Spelling.{first_byte, last_byte}
 use Rattle.pc_layout.specs.Faults.{IsFault, HasFault}
@@ -191,13 +191,13 @@ module _ {I : Type 0} (steps : I → Option (Result Line Fault) → I → Type 0
   record AllCame (it : I) (ks : List (Result Line Fault)) : Type 0 where
     lines : List Line
     came : Yields steps it (map Ok lines)
-    are : lines_came (map line_item_of ks) ≡ map line_of lines
+    are : lines_came (map line_item_of ks) ≡ map logical_line_of lines
 
   all_came : (it : I) (ks : List (Result Line Fault)) → Yields steps it ks → fault_came (map line_item_of ks) ≡ None
       → AllCame it ks
   all_came it [] h e = record { lines = []; came = h; are = refl }
   all_came it (Ok l ∷ ks) (t, g, more) e = let r = all_came t ks more e in
-      record { lines = l ∷ r.lines; came = (t, g, r.came); are = ap (λ z. line_of l ∷ z) r.are }
+      record { lines = l ∷ r.lines; came = (t, g, r.came); are = ap (λ z. logical_line_of l ∷ z) r.are }
   all_came it (Err f ∷ ks) h e = cc
 
   -- lines, and then a refusal
@@ -212,7 +212,7 @@ module _ {I : Type 0} (steps : I → Option (Result Line Fault) → I → Type 0
   module _ {T : Type 0} (gives : T → Option (Result (Token (Bor (List ℕ))) Fault) → T → Type 0) (text : List ℕ) (it : I)
       (toks : T) (lays : LaysOut steps gives text it toks)
       (within : RefusesWithin steps (length text) it) (stand : ComesAs steps
-      (λ ls. LinesWithin (length text) (map line_of ls)) it) where
+      (λ ls. LinesWithin (length text) (map logical_line_of ls)) it) where
     by_fault : (ts : List (Token (Bor (List ℕ)))) (r : Refusal) (ks : List (Result Line Fault)) → Yields steps it ks
         → (o : Option Fault) → fault_came (map line_item_of ks) ≡ o →
         MatchOption o (ComesWhole text (lines_came (map line_item_of ks))

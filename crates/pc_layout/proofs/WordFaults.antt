@@ -16,7 +16,7 @@ use Rattle.pc_token.specs.declared.token.Operator.TheVariants.{At}
 use Rattle.pc_token.specs.declared.token.TokenKind.{TokenKind}
 use Rattle.pc_token.specs.declared.token.TokenKind.TheVariants as k
 use Rattle.pc_token.specs.Lexeme.{Lexeme, LogicalLine}
-use Rattle.pc_layout.specs.Spelling.{first_kind, first_byte, forms, IsHeader, future_header, dataclass_header}
+use Rattle.pc_layout.specs.Spelling.{first_kind, first_byte, forms, IsImportHeader, future_header, dataclass_header}
 use Rattle.pc_layout.specs.Spelling.{any_header, dataclass_decorator, excludes_keyword, excludes_operator}
 use Rattle.pc_layout.specs.Placing.{is_spelled, is_header, opening_fault, exclusion, refused_or, first_excluded}
 use Rattle.pc_layout.specs.Placing.{word_fault}
@@ -26,7 +26,7 @@ use Rattle.pc_layout.specs.Layouts.{StandInOrder}
 pub spelled_tells : (xs : List Lexeme) (words : List (List ℕ)) → Decides (is_spelled xs words) (forms xs ≡ words)
 spelled_tells xs words = slice_eq-Decides bytes_eq-Decides (forms xs) words (is_spelled xs words) refl
 
-pub header_tells : (l : LogicalLine) → Decides (is_header l.column l.lexemes) (IsHeader l)
+pub header_tells : (l : LogicalLine) → Decides (is_header l.column l.lexemes) (IsImportHeader l)
 header_tells l = Decides-and _ _ (Decides-eqb l.column 0)
     (Decides-or _ _ (spelled_tells l.lexemes future_header) (Decides-or _ _ (spelled_tells l.lexemes dataclass_header)
     (spelled_tells l.lexemes any_header)))

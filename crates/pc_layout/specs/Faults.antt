@@ -10,7 +10,7 @@ use Rattle.pc_token.specs.declared.token.Operator.{Operator}
 use Rattle.pc_token.specs.declared.token.Operator.TheVariants.{At}
 use Rattle.pc_token.specs.declared.token.TokenKind.TheVariants as k
 use Rattle.pc_token.specs.Lexeme.{Lexeme, LogicalLine}
-use Rattle.pc_layout.specs.Spelling.{first_byte, BeginsWith, EndsInColon, IsSpelled, IsHeader, dataclass_decorator}
+use Rattle.pc_layout.specs.Spelling.{first_byte, BeginsWith, EndsInColon, IsSpelled, IsImportHeader, dataclass_decorator}
 use Rattle.pc_layout.specs.Spelling.{excludes_keyword, excludes_operator}
 
 -- a suite of this column is open after these lines: going back, the first line that is not deeper has this column
@@ -52,7 +52,7 @@ deepest = 50
 abbrev pub HasExcludedKeyword : LogicalLine → ℕ → Type 0
 HasExcludedKeyword l byte =
     (x : Lexeme) × (word : Keyword) × Contains l.lexemes x × (x.kind ≡ k.Keyword word) × IsTrue (excludes_keyword word)
-    × (¬ (IsHeader l)) × (byte ≡ x.place.start)
+    × (¬ (IsImportHeader l)) × (byte ≡ x.place.start)
 
 -- the line has an excluded operator at the byte
 abbrev pub HasExcludedOperator : LogicalLine → ℕ → Type 0

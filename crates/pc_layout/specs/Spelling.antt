@@ -69,8 +69,8 @@ abbrev pub dataclass_decorator : List (List ℕ)
 dataclass_decorator = codes "@" ∷ codes "dataclass" ∷ []
 
 -- an import header: one of the three, at column 0
-abbrev pub IsHeader : LogicalLine → Type 0
-IsHeader l = (l.column ≡ 0) × (IsSpelled future_header l ⊎ (IsSpelled dataclass_header l ⊎ IsSpelled any_header l))
+abbrev pub IsImportHeader : LogicalLine → Type 0
+IsImportHeader l = (l.column ≡ 0) × (IsSpelled future_header l ⊎ (IsSpelled dataclass_header l ⊎ IsSpelled any_header l))
 
 -- the keywords that the profile excludes (two of them are used in the import headers)
 abbrev pub excludes_keyword : Keyword → Bool

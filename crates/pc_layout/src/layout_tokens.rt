@@ -2,7 +2,7 @@
 ghost use Rattle.std.specs.Prelude.{◌≡◌, ℕ, ◌+◌, ◌<◌, ◌≤◌, ◌*◌, ◌^◌, true, false, List, [], ◌∷◌, length, map, Ok, Err};
 ghost use Rattle.std.specs.Iterator.{IsFinite, MakesProgress};
 ghost use Rattle.pc_source.specs.Stream.{ComesAs, RefusesWithin};
-ghost use Rattle.pc_token.specs.Lexeme.{line_of};
+ghost use Rattle.pc_token.specs.Lexeme.{logical_line_of};
 ghost use Rattle.pc_token.specs.Within.{LinesWithin};
 ghost use Rattle.pc_layout.specs.TokenIterator.Items.{OutrankedBy};
 ghost use Rattle.pc_layout.specs.Answering.{LaysOut};
@@ -22,7 +22,7 @@ pub struct LayoutTokens<'a, I: Drop> {
 
 impl<'a, I: Iterator<Item = Result<Line<'a>, Fault>> + Drop> LayoutTokens<'a, I> {
     ghost use Rattle.pc_layout.specs.TokenIterator.PendingTokens.{asks};
-    ghost use Rattle.pc_layout.specs.TokenIterator.Items.{tokens_left};
+    ghost use Rattle.pc_layout.specs.TokenIterator.Items.{most_tokens_left};
     ghost use Rattle.pc_layout.specs.TokenIterator.NextToken.{gives_next_token};
 
     /// Returns the fault that is reported for a refusal of the layout: the first fault among the later lines, otherwise
@@ -51,7 +51,7 @@ impl<'a, I: Iterator<Item = Result<Line<'a>, Fault>> + Drop> LayoutTokens<'a, I>
         ensures steps { gives_next_token I.next_gives self.old.hand self.old.lines result self.new.hand self.new.lines }
         ensures goes { MakesProgress
             (λ s. asks s.hand.due ≡ true → I.can_next s.lines × IsFinite (I.remaining s.lines))
-            (λ s. tokens_left s.hand (I.remaining s.lines)) self.old result self.new }
+            (λ s. most_tokens_left s.hand (I.remaining s.lines)) self.old result self.new }
     {
         match self.lines.next() {
             None => {
@@ -78,12 +78,12 @@ impl<'a, I: Iterator<Item = Result<Line<'a>, Fault>> + Drop> Iterator for Layout
     type Item = Result<TextToken<'a>, Fault>;
 
     ghost use Rattle.pc_layout.specs.TokenIterator.PendingTokens.{asks};
-    ghost use Rattle.pc_layout.specs.TokenIterator.Items.{tokens_left};
+    ghost use Rattle.pc_layout.specs.TokenIterator.Items.{most_tokens_left};
     ghost use Rattle.pc_layout.specs.TokenIterator.NextToken.{gives_next_token};
 
     ghost next_gives = { λ s r t. gives_next_token I.next_gives s.hand s.lines r t.hand t.lines };
 
-    ghost remaining = { λ s. tokens_left s.hand (I.remaining s.lines) };
+    ghost remaining = { λ s. most_tokens_left s.hand (I.remaining s.lines) };
 
     ghost can_next = { λ s. asks s.hand.due ≡ true → I.can_next s.lines × IsFinite (I.remaining s.lines) };
 
@@ -118,7 +118,7 @@ pub fn layout_of<'a, I: Iterator<Item = Result<Line<'a>, Fault>> + Drop>(
     ensures begins { IsAtStart source.now lines result }
     ensures lays { LaysOut I.next_gives ⟦<LayoutTokens<'a, I> as Iterator>⟧.next_gives source.now lines result }
     ensures within { RefusesWithin I.next_gives (length source.now) lines
-        → ComesAs I.next_gives (λ ls. LinesWithin (length source.now) (map line_of ls)) lines
+        → ComesAs I.next_gives (λ ls. LinesWithin (length source.now) (map logical_line_of ls)) lines
         → RefusesWithin ⟦<LayoutTokens<'a, I> as Iterator>⟧.next_gives (length source.now) result }
 {
     LayoutTokens {

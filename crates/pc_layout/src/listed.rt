@@ -4,7 +4,7 @@ ghost use Rattle.std.specs.Iterator.{at_most};
 ghost use Rattle.pc_source.specs.declared.fault.Fault.TheVariants as fault;
 ghost use Rattle.pc_source.specs.Answers.{OnRefusal};
 ghost use Rattle.pc_source.specs.Within.{IsWithin};
-ghost use Rattle.pc_token.specs.Lexeme.{line_of, lexeme_of};
+ghost use Rattle.pc_token.specs.Lexeme.{logical_line_of, lexeme_of};
 ghost use Rattle.pc_token.specs.Within.{LinesWithin};
 ghost use Rattle.pc_layout.specs.Layouts.{IsLayout};
 ghost use Rattle.pc_layout.specs.Answering.{Refuses};
@@ -24,7 +24,7 @@ struct Listed<'t, 'a> {
 
 /// Copies a line.
 fn copied<'a>(alloc: Global, line: &Line<'a>) -> Result<Line<'a>, Fault>
-    ensures { MatchResult result (λ l. line_of l ≡ line_of line.now) (λ e. e ≡ fault.OutOfMemory) }
+    ensures { MatchResult result (λ l. logical_line_of l ≡ logical_line_of line.now) (λ e. e ≡ fault.OutOfMemory) }
 {
     let mut tokens = Vec::new(alloc);
     for token in &line.tokens {
@@ -73,9 +73,9 @@ pub fn layout<'a>(
     source: &'a Source,
     lines: &[Line<'a>],
 ) -> Result<Vec<TextToken<'a>>, Fault>
-    ensures laid { IfOk result (λ tokens. IsLayout source.now (map line_of lines.now) (map lexeme_of tokens.items)) }
-    ensures refused { IfErr result (OnRefusal (Refuses source.now (map line_of lines.now))) }
-    ensures within { LinesWithin (length source.now) (map line_of lines.now)
+    ensures laid { IfOk result (λ tokens. IsLayout source.now (map logical_line_of lines.now) (map lexeme_of tokens.items)) }
+    ensures refused { IfErr result (OnRefusal (Refuses source.now (map logical_line_of lines.now))) }
+    ensures within { LinesWithin (length source.now) (map logical_line_of lines.now)
         → IfErr result (IsWithin (length source.now)) }
 {
     let mut tokens = Vec::new(alloc);

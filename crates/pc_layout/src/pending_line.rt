@@ -1,9 +1,9 @@
 //! The current line of the iterator of tokens.
 ghost use Rattle.std.specs.Prelude.{◌≡◌, ℕ, ◌+◌, ◌-◌, ◌^◌, ◌<◌, ◌≤◌, ◌*◌, true, false, List, [], ◌∷◌, length, map, Ok};
 ghost use Rattle.std.specs.Prelude.{◌++◌, Err, IsTrue, MatchOption, MatchResult, OnOk};
-ghost use Rattle.pc_token.specs.Lexeme.{lexeme_of, line_of};
+ghost use Rattle.pc_token.specs.Lexeme.{lexeme_of, logical_line_of};
 ghost use Rattle.pc_layout.specs.Stepping.{outrank, start, layout_lexemes};
-ghost use Rattle.pc_layout.specs.TokenIterator.Levels.{context_of, line_at, StepsTo};
+ghost use Rattle.pc_layout.specs.TokenIterator.Levels.{context_of, line_of_tokens, StepsTo};
 
 use crate::levels::{Levels, SuiteChange};
 use crate::line::{begins_with_def, ends_in_colon, first_byte, last_byte, word_fault};
@@ -62,7 +62,7 @@ fn step(
     column: usize,
     tokens: &[TextToken<'_>],
 ) -> Result<SuiteChange, Refusal>
-    ensures { StepsTo len (context_of levels.old) (line_at column (map lexeme_of tokens.now)) result
+    ensures { StepsTo len (context_of levels.old) (line_of_tokens column (map lexeme_of tokens.now)) result
         (context_of levels.new) }
 {
     match levels.place(column) {
@@ -105,8 +105,8 @@ impl<'a> PendingLine<'a> {
     pub fn begin(&mut self, line: Line<'a>) -> Result<(), Refusal>
         requires { self.old.due ≡ LineStage.Lines }
         ensures gives { MatchResult result
-            (λ _. (ls : List _) → pending self.old (Ok (line_of line.entry) ∷ ls) ≡ pending self.new ls)
-            (λ r. (ls : List _) → pending self.old (Ok (line_of line.entry) ∷ ls) ≡ Err (outrank r ls) ∷ []) }
+            (λ _. (ls : List _) → pending self.old (Ok (logical_line_of line.entry) ∷ ls) ≡ pending self.new ls)
+            (λ r. (ls : List _) → pending self.old (Ok (logical_line_of line.entry) ∷ ls) ≡ Err (outrank r ls) ∷ []) }
         ensures due { OnOk result (self.new.due ≡ LineStage.Line) }
         ensures count { OnOk result (at_hand self.new < 2 ^ 65 + 3) }
     {

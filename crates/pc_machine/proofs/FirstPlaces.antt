@@ -12,7 +12,7 @@ use Rattle.pc_machine.specs.declared.state.Global.{Global as RustGlobal}
 use Rattle.pc_machine.specs.State.{GlobalBinding}
 use Rattle.pc_machine.specs.Names.{global_by_name}
 use Rattle.pc_machine.specs.Machine.{global_of as global_seen, bound_of}
-use Rattle.pc_machine.specs.Globals.{place_of, name_of_global, ArePlaced}
+use Rattle.pc_machine.specs.Globals.{index_of_name, name_of_global, ArePlaced}
 
 -- what a name means is what is bound at its first place
 abbrev pub bound_at : Option RustGlobal → Option GlobalBinding
@@ -27,19 +27,19 @@ later : (g : RustGlobal) (gs : List RustGlobal) (o : Option ℕ) → at_place (g
 later g gs None = refl
 later g gs (Some i) = refl
 
-pub found_at : (n : List ℕ) (gs : List RustGlobal) → at_place gs (place_of n (map name_of_global gs)) ≡ global_by_name n
+pub found_at : (n : List ℕ) (gs : List RustGlobal) → at_place gs (index_of_name n (map name_of_global gs)) ≡ global_by_name n
     (map global_seen gs)
 found_at n [] = refl
 found_at n (g ∷ gs) = go (same_text g.name.now n) (found_at n gs)
   where
-    go : (b : Bool) → at_place gs (place_of n (map name_of_global gs)) ≡ global_by_name n (map global_seen gs)
-        → at_place (g ∷ gs) (if b then Some 0 else option_map suc (place_of n (map name_of_global gs)))
+    go : (b : Bool) → at_place gs (index_of_name n (map name_of_global gs)) ≡ global_by_name n (map global_seen gs)
+        → at_place (g ∷ gs) (if b then Some 0 else option_map suc (index_of_name n (map name_of_global gs)))
         ≡ (if b then Some (bound_of g.bound) else global_by_name n (map global_seen gs))
     go true rest = refl
-    go false rest = later g gs (place_of n (map name_of_global gs)) ∙ rest
+    go false rest = later g gs (index_of_name n (map name_of_global gs)) ∙ rest
 
 -- one more name stands after the others
-place_more : (n x : List ℕ) (ns : List (List ℕ)) → place_of n (ns ++ x ∷ []) ≡ first_of (place_of n ns)
+place_more : (n x : List ℕ) (ns : List (List ℕ)) → index_of_name n (ns ++ x ∷ []) ≡ first_of (index_of_name n ns)
     (bound_as x (length ns) n)
 place_more n x [] = refl
 place_more n x (m ∷ ns) = go (same_text m n) (place_more n x ns)
@@ -50,11 +50,11 @@ place_more n x (m ∷ ns) = go (same_text m n) (place_more n x ns)
     shifted None true = refl
     shifted None false = refl
 
-    go : (b : Bool) → place_of n (ns ++ x ∷ []) ≡ first_of (place_of n ns) (bound_as x (length ns) n)
-        → (if b then Some 0 else option_map suc (place_of n (ns ++ x ∷ [])))
-        ≡ first_of (if b then Some 0 else option_map suc (place_of n ns)) (bound_as x (suc (length ns)) n)
+    go : (b : Bool) → index_of_name n (ns ++ x ∷ []) ≡ first_of (index_of_name n ns) (bound_as x (length ns) n)
+        → (if b then Some 0 else option_map suc (index_of_name n (ns ++ x ∷ [])))
+        ≡ first_of (if b then Some 0 else option_map suc (index_of_name n ns)) (bound_as x (suc (length ns)) n)
     go true rest = refl
-    go false rest = ap (option_map suc) rest ∙ shifted (place_of n ns) (same_text x n)
+    go false rest = ap (option_map suc) rest ∙ shifted (index_of_name n ns) (same_text x n)
 
 pub placed_more : {S : Type 0} (old new : IndexMap (Bor (List ℕ)) ℕ S) (gs : List RustGlobal) (g : RustGlobal)
     (place : ℕ) → place ≡ length (map name_of_global gs) → ArePlaced old (map name_of_global gs)
@@ -63,6 +63,6 @@ pub placed_more : {S : Type 0} (old new : IndexMap (Bor (List ℕ)) ℕ S) (gs :
 placed_more old new gs g place here placed binds n =
     binds n
     ∙ ap (λ (o : Option ℕ). first_of o (bound_as g.name.now place n)) (placed n)
-    ∙ ap (λ (i : ℕ). first_of (place_of n (map name_of_global gs)) (bound_as g.name.now i n)) here
+    ∙ ap (λ (i : ℕ). first_of (index_of_name n (map name_of_global gs)) (bound_as g.name.now i n)) here
     ∙ sym (place_more n g.name.now (map name_of_global gs))
-    ∙ ap (place_of n) (sym (map-append name_of_global gs (g ∷ [])))
+    ∙ ap (index_of_name n) (sym (map-append name_of_global gs (g ∷ [])))

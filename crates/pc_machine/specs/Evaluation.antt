@@ -152,8 +152,8 @@ module _ {ℓ} (Step : Type 0 → Type ℓ) (reading : Interpretation Step) wher
   m >> n = m >>= λ a. n
 
   -- a step that gives this value or stop
-  abbrev pub answer : {A : Type 0} → Out A → Step A
-  answer out = look (λ s. out)
+  abbrev pub result_step : {A : Type 0} → Out A → Step A
+  result_step out = look (λ s. out)
 
   -- the first step if the truth value is true, else the second
   abbrev pub choose : {A : Type 0} → Bool → Step A → Step A → Step A
@@ -217,14 +217,14 @@ module _ {ℓ} (Step : Type 0 → Type ℓ) (reading : Interpretation Step) wher
   -- a call of a function, in a frame of its own
   abbrev pub call_function : Parts Step → Function → List Value → List NamedValue → Step Value
   call_function parts f values named = do
-    arguments ← answer (or_type_error (bound_arguments f.parameters values named))
+    arguments ← result_step (or_type_error (bound_arguments f.parameters values named))
     flow ← enter (frame_of f arguments) (parts.exec f.body)
     pure (value_of_flow flow)
 
   -- a call of a method, with its object as `self`; its name's event comes at entry
   abbrev pub call_method : Parts Step → Value → Function → List Value → List NamedValue → Step Value
   call_method parts object f values named = do
-    arguments ← answer (or_type_error (bound_arguments f.parameters values named))
+    arguments ← result_step (or_type_error (bound_arguments f.parameters values named))
     flow ← enter (frame_of f (self_local object ∷ arguments)) (emit f.name.place >> parts.exec f.body)
     pure (value_of_flow flow)
 
@@ -232,7 +232,7 @@ module _ {ℓ} (Step : Type 0 → Type ℓ) (reading : Interpretation Step) wher
   abbrev pub call_class : ℕ → List Value → List NamedValue → Step Value
   call_class c values named = do
     fields ← look (λ s. Gives (fields_of (class_at s.classes (Some c))))
-    arguments ← answer (or_type_error (bound_arguments fields values named))
+    arguments ← result_step (or_type_error (bound_arguments fields values named))
     act value_out (action.new_instance c (slots_of arguments))
 
   -- the value of a call of a reserved name: None for `print`, else the value of its action
@@ -246,11 +246,11 @@ module _ {ℓ} (Step : Type 0 → Type ℓ) (reading : Interpretation Step) wher
   call_callee parts (calls_function f) values named = call_function parts f values named
   call_callee parts (calls_class c) values named = call_class c values named
   call_callee parts (calls_reserved n) values named = do
-    reserved ← answer (reserved_call n values named)
+    reserved ← result_step (reserved_call n values named)
     do_reserved reserved
   call_callee parts (calls_method object f) values named = call_method parts object f values named
   call_callee parts (calls_builtin_method object method) values named = do
-    a ← answer (builtin_method_action object method values named)
+    a ← result_step (builtin_method_action object method values named)
     act value_out a
 
   -- a call: the callee, the arguments, its event, its action; the second argument of `isinstance` is not evaluated
@@ -393,7 +393,7 @@ module _ {ℓ} (Step : Type 0 → Type ℓ) (reading : Interpretation Step) wher
     values ← eval_all parts.eval arguments
     named ← eval_keywords parts.eval keywords
     emit p
-    limit ← answer (range_argument values named)
+    limit ← result_step (range_argument values named)
     act iteration_out (action.iterate_range limit)
   eval_iterable parts e any_iterable = do
     v ← parts.eval e
@@ -560,11 +560,11 @@ module _ {ℓ} (Step : Type 0 → Type ℓ) (reading : Interpretation Step) wher
   -- the making of a class: `@dataclass`, the base, the members with their defaults, the order of its fields
   abbrev pub make_class : Bool → ClassDef → Step (Unit {0})
   make_class imports_dataclass c = do
-    answer (dataclass_found imports_dataclass)
+    result_step (dataclass_found imports_dataclass)
     base ← look (base_number c.base)
     own ← make_members c.members
     class ← look (λ s. Gives (class_behind (class_at s.classes base) own (length s.classes)))
-    answer (defaults_in_order class.fields)
+    result_step (defaults_in_order class.fields)
     change (binds_class c.name.text class)
 
   -- the execution of a constant, a class or a def

@@ -13,10 +13,10 @@ abbrev pub name_of_global : RustGlobal → List ℕ
 name_of_global g = g.name.now
 
 -- the position of a name's first occurrence
-abbrev pub place_of : List ℕ → List (List ℕ) → Option ℕ
-place_of name [] = None
-place_of name (n ∷ rest) = if same_text n name then Some 0 else option_map suc (place_of name rest)
+abbrev pub index_of_name : List ℕ → List (List ℕ) → Option ℕ
+index_of_name name [] = None
+index_of_name name (n ∷ rest) = if same_text n name then Some 0 else option_map suc (index_of_name name rest)
 
 -- a map holds the position of each name's first occurrence
 abbrev pub ArePlaced : {S : Type 0} → IndexMap (Bor (List ℕ)) ℕ S → List (List ℕ) → Type 0
-ArePlaced places names = (name : List ℕ) → at_text places name ≡ place_of name names
+ArePlaced places names = (name : List ℕ) → at_text places name ≡ index_of_name name names

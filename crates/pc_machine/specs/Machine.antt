@@ -163,7 +163,7 @@ stop_of rust_stop.Cut = Cut
 abbrev pub TellsProgress : {A B : Type 0} → (A → B) → Result A Halt → Machine → After B → Type 0
 TellsProgress view (Ok a) m l = l ≡ Came (view a) (progress_of m)
 TellsProgress view (Err (halt.Stopped s)) m l = l ≡ Ended (stop_of s) (progress_of m)
-TellsProgress view (Err halt.OutOfMemory) m l = Unit {0}
+TellsProgress view (Err (halt.OutOfMemory error)) m l = Unit {0}
 
 -- the absence of a value
 abbrev pub unit : Unit {0} → Unit {0}
@@ -258,4 +258,4 @@ with_object (Some object) locals = self_local object ∷ locals
 abbrev pub TellsOutcome : {A B : Type 0} → (A → B) → Result A Halt → Out B → Type 0
 TellsOutcome view (Ok a) out = out ≡ Gives (view a)
 TellsOutcome view (Err (halt.Stopped s)) out = out ≡ Stops (stop_of s)
-TellsOutcome view (Err halt.OutOfMemory) out = Unit {0}
+TellsOutcome view (Err (halt.OutOfMemory error)) out = Unit {0}

@@ -18,9 +18,9 @@ pub data End : Type 0 where
   stopped : (stop : Stop) → End
 
 -- the end of a run with this result
-abbrev pub end_of : Out Value → End
-end_of (Gives v) = done
-end_of (Stops stop) = stopped stop
+abbrev pub end_with : Out Value → End
+end_with (Gives v) = done
+end_with (Stops stop) = stopped stop
 
 -- the steps of all possible runs, with at most n nested steps
 abbrev pub free_parts : ℕ → Parts free.Step
@@ -44,7 +44,7 @@ pub record Ran (m : Module) (events : List Place) (end : End) : Type 0 where
   pub out : Out Value
   pub left : State
   pub runs : free_module bound m nothing_bound events out left
-  pub is : end ≡ end_of out
+  pub is : end ≡ end_with out
 
 -- the only run of a module with a code that prevents running: no event, out of the profile
 pub record NeverRan (events : List Place) (end : End) : Type 0 where

@@ -53,7 +53,7 @@ pub fn characters(alloc: Global, text: &str) -> Result<Vec<char>, OutOfMemory>
 }
 
 /// Returns an owned copy of a text.
-pub fn text_of(alloc: Global, text: &str) -> Result<String, OutOfMemory>
+pub fn owned_text(alloc: Global, text: &str) -> Result<String, OutOfMemory>
     ensures { IfOk result (λ s. string_bytes s ≡ text.now) }
 {
     Ok(String::from_str(alloc, text)?)
@@ -210,7 +210,7 @@ pub fn slots_of(alloc: Global, locals: &[Local<'_>]) -> Result<Vec<Slot>, OutOfM
     let mut slots = Vec::new(alloc);
     for local in locals {
         if let Some(value) = &local.value {
-            let name = text_of(alloc, local.name)?;
+            let name = owned_text(alloc, local.name)?;
             let value = value.copy(alloc)?;
             slots.push(Slot { name, value })?;
         }

@@ -47,10 +47,10 @@ impl<'m> Globals<'m> {
         self.bindings.push(state::Global { name, bound })?;
         match bind_first(&mut self.places, name, place) {
             Ok(()) => Ok(()),
-            Err(_) => {
+            Err(error) => {
                 // Without its entry in the map by name, lookups would never find the binding.
                 let _ = self.bindings.pop();
-                Err(OutOfMemory)
+                Err(error)
             }
         }
     }

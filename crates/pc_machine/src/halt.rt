@@ -25,14 +25,14 @@ pub enum Halt {
     /// The run ends.
     Stopped(Stop),
     /// An allocation failed, which the model does not cover.
-    OutOfMemory,
+    OutOfMemory(OutOfMemory),
 }
 
 impl From<OutOfMemory> for Halt {
-    ghost from_gives = { λ _ e. e ≡ halt.OutOfMemory };
+    ghost from_gives = { λ error e. e ≡ halt.OutOfMemory error };
 
-    fn from(_error: OutOfMemory) -> Halt {
-        Halt::OutOfMemory
+    fn from(error: OutOfMemory) -> Halt {
+        Halt::OutOfMemory(error)
     }
 }
 

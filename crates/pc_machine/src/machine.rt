@@ -147,10 +147,8 @@ impl<'m> Machine<'m> {
         ensures ok { OnOk result (progress_of self.new ≡ after_event place (progress_of self.old)) }
         ensures fuel { self.new.fuel ≡ self.old.fuel }
     {
-        match self.events.push(place) {
-            Ok(()) => Ok(()),
-            Err(_) => Err(OutOfMemory),
-        }
+        self.events.push(place)?;
+        Ok(())
     }
 
     /// Records the event of a place and returns a value. Own rule of the profile.

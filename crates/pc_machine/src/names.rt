@@ -53,10 +53,8 @@ fn add_name<'m>(frame: &mut Vec<Local<'m>>, name: &'m str) -> Result<(), OutOfMe
     ensures { OnOk result (map local_seen frame.new.items
         ≡ map local_seen frame.old.items ++ map unbound (name.now ∷ [])) }
 {
-    match frame.push(Local { name, value: None }) {
-        Ok(()) => Ok(()),
-        Err(_) => Err(OutOfMemory),
-    }
+    frame.push(Local { name, value: None })?;
+    Ok(())
 }
 
 /// Adds an unbound local for each name that the statements bind.

@@ -41,7 +41,7 @@ impl<'m> Machine<'m> {
             (act value_out (action.number (number_of_digits digits.now)) (after_event place (progress_of self.old))) }
         ensures fuel { self.new.fuel ≤ self.old.fuel }
     {
-        let digits = text_of(alloc, digits)?;
+        let digits = owned_text(alloc, digits)?;
         self.perform(alloc, place, Action::Number(false, digits))
     }
 
@@ -72,7 +72,7 @@ impl<'m> Machine<'m> {
         ensures fuel { self.new.fuel ≤ self.old.fuel }
     {
         let is_method = self.find_method(&object, name).is_some();
-        let name = text_of(alloc, name)?;
+        let name = owned_text(alloc, name)?;
         self.perform(alloc, place, Action::ReadAttribute(object, name, is_method))
     }
 
@@ -109,7 +109,7 @@ impl<'m> Machine<'m> {
         if let Some(method) = self.find_builtin_method(&object, name) {
             return Ok(Callee::BuiltinMethod(object, method));
         }
-        let name = text_of(alloc, name)?;
+        let name = owned_text(alloc, name)?;
         let field = self.act_value(alloc, Action::ReadAttribute(object, name, false))?;
         Ok(Callee::Value(field))
     }
@@ -285,7 +285,7 @@ impl<'m> Machine<'m> {
             (attribute_stored (value_of object) name.now (value_of value) (after_event place (progress_of self.old))) }
         ensures fuel { self.new.fuel ≤ self.old.fuel }
     {
-        let name = text_of(alloc, name)?;
+        let name = owned_text(alloc, name)?;
         self.perform(alloc, place, Action::StoreAttribute(object, name, value))?;
         Ok(Completion::Next)
     }

@@ -14,7 +14,7 @@ use Rattle.pc_session.specs.Sessions.{forgot}
 use Rattle.pc_session.specs.States.{State, fresh}
 use Rattle.pc_message_loop.specs.declared.serving.ServingEnd.{ServingEnd}
 use Rattle.pc_message_loop.specs.declared.serving.ServingEnd.TheVariants as the_end
-use Rattle.pc_message_loop.specs.Runs.{no_memory, ended_with, Turn, Run, IsBegun, IsTurned, IsServed, IsCutShort, TakesSome}
+use Rattle.pc_message_loop.specs.Runs.{no_memory, ended_with, Turn, AllReplies, IsBegun, IsTurned, IsServed, IsCutShort, TakesSome}
 use Rattle.pc_message_loop.specs.Runs.{OnStop, OnEnd}
 
 -- bytes that are framed messages, and one more
@@ -61,8 +61,8 @@ module _ {W : Type 0} (contents : W → Option (List ℕ)) where
 module _ (finds : List ℕ → CheckOutcome → Type 0) where
   -- a run, and one message more
   pub run_more : (old : State) (messages : List (List ℕ)) (sent : List ℕ) (middle : State) (message more : List ℕ)
-      (new : State) → Run finds old messages sent middle → ended_with middle.stage ≡ None
-      → Turn finds middle message more new → Run finds old (messages ++ message ∷ []) (sent ++ more) new
+      (new : State) → AllReplies finds old messages sent middle → ended_with middle.stage ≡ None
+      → Turn finds middle message more new → AllReplies finds old (messages ++ message ∷ []) (sent ++ more) new
   run_more old [] sent middle message more new run going turn =
       let Goes : State → Type 0 = λ s. ended_with s.stage ≡ None in
       let Turns : State → Type 0 = λ s. Turn finds s message more new in (

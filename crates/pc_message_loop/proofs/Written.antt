@@ -16,7 +16,7 @@ use Rattle.pc_session.specs.Sent.{IsTextOf, AreSent}
 use Rattle.pc_session.specs.Shown.{lost_data}
 use Rattle.pc_session.specs.States.{State, fresh}
 use Rattle.pc_message_loop.specs.declared.serving.ServingEnd.TheVariants as the_end
-use Rattle.pc_message_loop.specs.Runs.{no_memory, Turn, Run, IsServed}
+use Rattle.pc_message_loop.specs.Runs.{no_memory, Turn, AllReplies, IsServed}
 use Rattle.pc_message_loop.specs.Sessions.{messages_of, AreOfSession, IsAnswered, SessionsAreWritten}
 
 -- ---- bytes
@@ -90,7 +90,7 @@ module _ (finds : List ℕ → CheckOutcome → Type 0) where
     exchanges : Exchanges finds old arrivals replies new
     are_sent : AreSent replies sent
 
-  of_run : (messages : List (List ℕ)) (old new : State) (sent : List ℕ) → Run finds old messages sent new
+  of_run : (messages : List (List ℕ)) (old new : State) (sent : List ℕ) → AllReplies finds old messages sent new
       → AreExchanges old messages sent new
   of_run [] old new sent run = record {
     arrivals = [];
@@ -112,7 +112,7 @@ module _ (finds : List ℕ → CheckOutcome → Type 0) where
         are_sent = subst (λ b. AreSent (first.replies ++ rest.replies) b) (sym run.6) both;
       }
 
-  of_session : (messages : List (List ℕ)) (sent : List ℕ) (session : State) → Run finds fresh messages sent session
+  of_session : (messages : List (List ℕ)) (sent : List ℕ) (session : State) → AllReplies finds fresh messages sent session
       → AreOfSession finds messages sent
   of_session messages sent session run =
       let are = of_run messages fresh session sent run in

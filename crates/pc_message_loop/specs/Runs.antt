@@ -43,10 +43,10 @@ module _ (finds : List ℕ → CheckOutcome → Type 0) where
       ⊎ ((IsLong message × SendsRefusal old sent new) ⊎ IsLost old sent new)
 
   -- the replies to a list of messages, one after the other; none follows `exit`
-  abbrev pub Run : State → List (List ℕ) → List ℕ → State → Type 0
-  Run old [] sent new = (sent ≡ []) × (new ≡ old)
-  Run old (message ∷ messages) sent new = (first : List ℕ) × (rest : List ℕ) × (between : State)
-      × (ended_with old.stage ≡ None) × Turn old message first between × Run between messages rest new
+  abbrev pub AllReplies : State → List (List ℕ) → List ℕ → State → Type 0
+  AllReplies old [] sent new = (sent ≡ []) × (new ≡ old)
+  AllReplies old (message ∷ messages) sent new = (first : List ℕ) × (rest : List ℕ) × (between : State)
+      × (ended_with old.stage ≡ None) × Turn old message first between × AllReplies between messages rest new
       × (sent ≡ first ++ rest)
 
   module _ {W : Type 0} (contents : W → Option (List ℕ)) where
@@ -79,7 +79,7 @@ module _ (finds : List ℕ → CheckOutcome → Type 0) where
       pub sent : List ℕ
       pub given : Gives remaining bytes input rest
       pub framed : AreFrames bytes messages
-      pub run : Run fresh messages sent final
+      pub run : AllReplies fresh messages sent final
       pub taken : TakesAll contents sent output after
 
     -- a device failed: a list of messages is read, and a beginning of the replies to them is written
@@ -91,7 +91,7 @@ module _ (finds : List ℕ → CheckOutcome → Type 0) where
       pub final : State
       pub given : Gives remaining bytes input read
       pub framed : AreFrames bytes messages
-      pub run : Run fresh messages sent final
+      pub run : AllReplies fresh messages sent final
       pub taken : TakesSome contents sent output after
 
     -- The way the server ended: at `exit`, after which nothing is read; at the end of the input, between two messages;

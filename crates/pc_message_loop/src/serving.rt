@@ -8,7 +8,7 @@ ghost use Rattle.pc_message_loop.specs.Runs.{no_memory, ended_with, TakesSome, I
 
 use pc_documents::Checker;
 use pc_session::{Session, Stage, refuse_long, step};
-use pc_source::{Counted, OutOfMemory};
+use pc_source::Counted;
 use pc_wire::{FrameFault, SendFault, read_message, write_whole};
 use std::alloc::Global;
 use std::io::{Read, Write};
@@ -98,7 +98,7 @@ fn answered<C: Checker, W: Write + Drop>(
 {
     match step(session, checker, alloc, message) {
         Ok(bytes) => written(output, &bytes),
-        Err(OutOfMemory) => lost(checker, session, output),
+        Err(_) => lost(checker, session, output),
     }
 }
 
@@ -117,7 +117,7 @@ fn refused<C: Checker, W: Write + Drop>(
 {
     match refuse_long(session, alloc) {
         Ok(refusal) => written(output, &refusal),
-        Err(OutOfMemory) => lost(checker, session, output),
+        Err(_) => lost(checker, session, output),
     }
 }
 

@@ -50,9 +50,9 @@ use Rattle.pc_rules.proofs.SaidByLabels.{said}
 use Rattle.pc_rules.proofs.SaidInLabels.{said_found}
 use Rattle.pc_module_rules.specs.Modules.{entry_parameters, names_entered, ReturnsWell, leaves, may_complete, may_not}
 use Rattle.pc_module_rules.specs.Modules.{FunctionLabels, LawfulFunction, FunctionFinds, MembersLabels, LawfulMembers}
-use Rattle.pc_module_rules.specs.Modules.{MembersFind, ItemLabels, ItemsLabels, item_constants, constant_types}
+use Rattle.pc_module_rules.specs.Modules.{MembersFind, ItemLabels, ModuleItemsLabels, item_constants, constant_types}
 use Rattle.pc_module_rules.specs.Modules.{BeforeItem, before_next, nothing_before, LawfulItem, LawfulModuleItems}
-use Rattle.pc_module_rules.specs.Modules.{ItemFinds, ItemsFind, Labelling, IsLawful, LabelsSay}
+use Rattle.pc_module_rules.specs.Modules.{ItemFinds, ModuleItemsFind, Labelling, IsLawful, LabelsSay}
 use Rattle.pc_module_rules.specs.Laws.Agreement.{AgreesWithScopes}
 use Rattle.pc_module_rules.proofs.SaidByStatements.{no_code, no_flows, no_annotation, suite_said}
 use Rattle.pc_module_rules.proofs.SaidInStatements.{suite_found}
@@ -317,7 +317,7 @@ never_early m constants names n (res.Local i) there h = h
 never_early m constants names n (res.Builtin i) there h = h
 never_early m constants names n res.None there h = h
 
-constants_counted : (m : Module) (items : List Item) (labels : ItemsLabels items)
+constants_counted : (m : Module) (items : List Item) (labels : ModuleItemsLabels items)
     → length (constant_types m items labels) ≡ length (constants_in items)
 constants_counted m [] labels = refl
 constants_counted m (constant_item p c ∷ rest) labels = ap suc (constants_counted m rest labels.rest)
@@ -565,9 +565,9 @@ module _ (m : Module) (done : List Item) (i : Item) (rest : List Item) (all : m.
       ∙ get_at_end (filter_map gives done) x (filter_map gives rest)
 
 module _ (m : Module) (labels : Labelling m) (f : Finding) (s : is_of_scopes f.code ≡ true) where
-  items_scope : (done items : List Item) (b : BeforeItem) (im : ItemsLabels items) → m.items ≡ done ++ items
+  items_scope : (done items : List Item) (b : BeforeItem) (im : ModuleItemsLabels items) → m.items ≡ done ++ items
       → Reached done b → LawfulModuleItems m (constant_types m m.items labels) b items im
-      → ItemsFind m (constant_types m m.items labels) b items im f → ScopeFinds m f
+      → ModuleItemsFind m (constant_types m m.items labels) b items im f → ScopeFinds m f
   items_scope done [] b im all r law h = absurd h
   items_scope done (i ∷ rest) b im all r law h = elim h [
     | inl a ↦ here i im.first all law.0 a
@@ -619,13 +619,13 @@ module _ (m : Module) (constants : List Tree) where
     lawful : LawfulItem m constants before (constant_item first c) labels
     within : (f : Finding) → Finds c.value labels.value f → finds f
 
-  constant_in : (done items taken : List Item) (b : BeforeItem) (im : ItemsLabels items) → Reached done b
+  constant_in : (done items taken : List Item) (b : BeforeItem) (im : ModuleItemsLabels items) → Reached done b
       → LawfulModuleItems m constants b items im → (at : ℕ) (first : Place) (c : Constant)
       → slice_get items at ≡ Some (constant_item first c) → taken ≡ done ++ take at items
-      → ConstantIn taken c (ItemsFind m constants b items im)
+      → ConstantIn taken c (ModuleItemsFind m constants b items im)
   constant_in done [] taken b im r law at first c e all = absurd (none-some _ e)
   constant_in done (constant_item p x ∷ rest) taken b im r law zero first c e all =
-      subst (λ y. ConstantIn taken y (ItemsFind m constants b (constant_item p x ∷ rest) im))
+      subst (λ y. ConstantIn taken y (ModuleItemsFind m constants b (constant_item p x ∷ rest) im))
       (constant_of (same_Some _ _ e))
       (record {
         before = b;

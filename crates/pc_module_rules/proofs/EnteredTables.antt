@@ -13,7 +13,7 @@ use Rattle.pc_flow.proofs.Conditions.{assign_well_formed}
 use Rattle.pc_module_rules.specs.Statements.{NamesBound}
 use Rattle.pc_module_rules.specs.Modules.{DeclaredEntry, LawfulEntry, assigned_at_entry, entry_env, names_entered}
 use Rattle.pc_module_rules.specs.Laws.Labellings.{Surroundings}
-use Rattle.pc_module_rules.specs.Computed.Statements.{Table, type_table, bound_type, with_declared, enter_local}
+use Rattle.pc_module_rules.specs.Computed.Statements.{DeclaredTypes, type_table, bound_type, with_declared, enter_local}
 use Rattle.pc_module_rules.specs.Computed.Statements.{enter_name, enter_parameters}
 use Rattle.pc_module_rules.specs.Laws.Walks.{TableFits, EnvFits}
 use Rattle.pc_module_rules.proofs.BoundNames.{here_among}
@@ -27,13 +27,13 @@ module _ (setting : Surroundings) (declared : List Tree) where
   open setting use {context as ctx}
 
   -- a walk has entered with a table and an environment that fit
-  pub record EntryFits (after : NamesBound) (start : Table × Env) (env : Env) : Type 0 where
+  pub record EntryFits (after : NamesBound) (start : DeclaredTypes × Env) (env : Env) : Type 0 where
     pub fits : TableFits setting declared after start.0
     pub env_is : start.1 ≡ env
     pub env_fits : EnvFits setting declared start.0 env
 
   -- a parameter
-  module _ (seen : NamesBound) (table : Table) (env : Env) (t : TableFits setting declared seen table)
+  module _ (seen : NamesBound) (table : DeclaredTypes) (env : Env) (t : TableFits setting declared seen table)
       (f : EnvFits setting declared table env) (word : List ℕ) (type : Tree) (k : IsWellFormed ctx.bases type) where
     local_entered : (x : ℕ) → ctx.resolve word ≡ res.Local x → DeclaredEntry declared (not (is_one_of word seen))
         (res.Local x) type → EntryFits (word ∷ seen) (enter_local (bound_type table x) table env x type)
@@ -114,7 +114,7 @@ module _ (setting : Surroundings) (declared : List Tree) where
     name_entered res.None i d = plain_entered res.None i (λ x j. absurd (grind (arith, j)))
 
   -- all parameters
-  pub all_entered : (seen : NamesBound) (table : Table) (env : Env) → TableFits setting declared seen table
+  pub all_entered : (seen : NamesBound) (table : DeclaredTypes) (env : Env) → TableFits setting declared seen table
       → EnvFits setting declared table env → (ps : List TypedParameter) → ParametersWellFormed ctx.bases ps
       → LawfulEntry ctx.resolve declared seen ps
       → EntryFits (names_entered seen ps) (enter_parameters ctx.resolve table env ps)
@@ -133,7 +133,7 @@ module _ (setting : Surroundings) (declared : List Tree) where
   long_none zero = refl
   long_none (suc n) = ap suc (long_none n)
 
-  pub long_types : (table : Table) → length (type_table table) ≡ length table
+  pub long_types : (table : DeclaredTypes) → length (type_table table) ≡ length table
   long_types [] = refl
   long_types (o ∷ os) = ap suc (long_types os)
 

@@ -17,7 +17,7 @@ use Rattle.pc_types.specs.Tree.{Tree}
 use Rattle.pc_class.specs.Facts.{ClassFacts}
 use Rattle.pc_class.specs.Findings.{base_class}
 use Rattle.pc_module_rules.specs.Modules.{FunctionLabels, LawfulFunction, FunctionFinds, MembersLabels, LawfulMembers}
-use Rattle.pc_module_rules.specs.Modules.{MembersFind, ItemsLabels, LawfulModuleItems, ItemsFind, BeforeItem}
+use Rattle.pc_module_rules.specs.Modules.{MembersFind, ModuleItemsLabels, LawfulModuleItems, ModuleItemsFind, BeforeItem}
 use Rattle.pc_module_rules.specs.Modules.{before_next, nothing_before, Labelling, IsLawful, LabelsSay, constant_types}
 
 -- ---- functions and methods by their numbers
@@ -38,9 +38,9 @@ module _ (m : Module) (constants : List Tree) where
       → FunctionIn owner d finds → FunctionIn owner d more
   wider owner d finds more w h = record { labels = h.labels; lawful = h.lawful; within = λ f x. w f (h.within f x) }
 
-  pub function_in : (items : List Item) (b : BeforeItem) (labels : ItemsLabels items)
+  pub function_in : (items : List Item) (b : BeforeItem) (labels : ModuleItemsLabels items)
       → LawfulModuleItems m constants b items labels → (j i : ℕ) (d : FuncDef) → slice_get (functions_in items) j
-      ≡ Some d → i ≡ b.functions + j → FunctionIn (owners.Func i) d (ItemsFind m constants b items labels)
+      ≡ Some d → i ≡ b.functions + j → FunctionIn (owners.Func i) d (ModuleItemsFind m constants b items labels)
   function_in [] b labels law j i d e at = absurd (none-some _ e)
   function_in (constant_item p c ∷ rest) b labels law j i d e at = wider (owners.Func i) d _ _ (λ f h. inr h)
       (function_in rest (before_next m b (constant_item p c) labels.first) labels.rest law.1 j i d e at)
@@ -69,10 +69,10 @@ module _ (m : Module) (constants : List Tree) where
       (λ f h. inr h) (method_in base c (suc number) (x.name.text ∷ before) ms labels.rest law.others j i d e
       (omega arith))
 
-  pub method_of_class_in : (items : List Item) (b : BeforeItem) (labels : ItemsLabels items)
+  pub method_of_class_in : (items : List Item) (b : BeforeItem) (labels : ModuleItemsLabels items)
       → LawfulModuleItems m constants b items labels → (j c : ℕ) (class : ClassDef) (i : ℕ) (d : FuncDef)
       → slice_get (classes_in items) j ≡ Some class → c ≡ b.classes + j → slice_get (methods_in class.members) i
-      ≡ Some d → FunctionIn (owners.Method c i) d (ItemsFind m constants b items labels)
+      ≡ Some d → FunctionIn (owners.Method c i) d (ModuleItemsFind m constants b items labels)
   method_of_class_in [] b labels law j c class i d e at is = absurd (none-some _ e)
   method_of_class_in (constant_item p x ∷ rest) b labels law j c class i d e at is = wider (owners.Method c i) d _ _
       (λ f h. inr h) (method_of_class_in rest (before_next m b (constant_item p x) labels.first) labels.rest law.1 j c

@@ -12,7 +12,7 @@ use Rattle.pc_notes.specs.Notes.{Note}
 use Rattle.pc_module_rules.specs.StatementLabels.{StmtLabels, SuiteLabels}
 use Rattle.pc_module_rules.specs.Statements.{NamesBound, LawfulStmt, LawfulSuite}
 use Rattle.pc_module_rules.specs.Laws.Labellings.{Surroundings}
-use Rattle.pc_module_rules.specs.Computed.Statements.{Table, BodyContext, Walk, step, walk_suite}
+use Rattle.pc_module_rules.specs.Computed.Statements.{DeclaredTypes, BodyContext, Walk, step, walk_suite}
 use Rattle.pc_module_rules.specs.Laws.Walks.{TableFits, EnvFits, OutFits, WalkSays, body_context_in}
 use Rattle.pc_module_rules.proofs.WalkedStatements.{stmt_says, suite_says}
 use Rattle.pc_module_rules.proofs.KeptWalks.{SameWalk, standing, same_step, same_suite}
@@ -28,7 +28,7 @@ module _ (setting : Surroundings) (returned : Tree) (kr : IsWellFormed setting.c
   abbrev bare : BodyContext
   bare = body_context_in setting returned
 
-  abbrev TableHere : NamesBound → Table → Type 0
+  abbrev TableHere : NamesBound → DeclaredTypes → Type 0
   TableHere seen table = TableFits setting declared seen table
 
   abbrev LawfulHere : NamesBound → Env → (s : Stmt) → StmtLabels s → Option Env → Type 0
@@ -38,26 +38,26 @@ module _ (setting : Surroundings) (returned : Tree) (kr : IsWellFormed setting.c
   LawfulThere seen env b labels out = LawfulSuite m ctx declared returned seen env b labels out
 
   -- the walk that keeps types has come to the environment of the labels, from this table to one that fits
-  pub record Stands (seen : NamesBound) (table : Table) (w : Walk) (out : Option Env) : Type 0 where
+  pub record Stands (seen : NamesBound) (table : DeclaredTypes) (w : Walk) (out : Option Env) : Type 0 where
     pub fits : TableHere seen w.table
     pub grows : (env : Env) → EnvFits setting declared table env → EnvFits setting declared w.table env
     pub env_is : w.env ≡ out
     pub env_fits : OutFits setting declared w.table out
     pub broken_fits : OutFits setting declared w.table w.broken
 
-  stands : (seen : NamesBound) (table : Table) (broken : Option Env) (found : List Note) (v w : Walk) (out : Option Env)
+  stands : (seen : NamesBound) (table : DeclaredTypes) (broken : Option Env) (found : List Note) (v w : Walk) (out : Option Env)
       (ways : List Env) (Says : Finding → Type 0) → SameWalk v w
       → WalkSays setting declared seen table broken found w out ways Says → Stands seen table v out
   stands seen table broken found v w out ways Says h says = record {
-    fits = subst (λ (t : Table). TableHere seen t) (sym h.table) says.fits;
-    grows = λ env f. subst (λ (t : Table). EnvFits setting declared t env) (sym h.table) (says.grows env f);
+    fits = subst (λ (t : DeclaredTypes). TableHere seen t) (sym h.table) says.fits;
+    grows = λ env f. subst (λ (t : DeclaredTypes). EnvFits setting declared t env) (sym h.table) (says.grows env f);
     env_is = h.env ∙ says.env_is;
-    env_fits = subst (λ (t : Table). OutFits setting declared t out) (sym h.table) says.env_fits;
-    broken_fits = subst (λ (t : Table). OutFits setting declared t v.broken) (sym h.table)
+    env_fits = subst (λ (t : DeclaredTypes). OutFits setting declared t out) (sym h.table) says.env_fits;
+    broken_fits = subst (λ (t : DeclaredTypes). OutFits setting declared t v.broken) (sym h.table)
         (subst (λ (o : Option Env). OutFits setting declared w.table o) (sym h.broken) says.broken_fits);
   }
 
-  pub stmt_stands : (seen : NamesBound) (table : Table) (env : Env) (broken : Option Env) (found : List Note)
+  pub stmt_stands : (seen : NamesBound) (table : DeclaredTypes) (env : Env) (broken : Option Env) (found : List Note)
       → TableHere seen table → EnvFits setting declared table env → OutFits setting declared table broken
       → (s : Stmt) (labels : StmtLabels s) (out : Option Env) → LawfulHere seen env s labels out
       → Stands (texts (bound_by_stmt s) ++ seen) table (step kept table (Some env) broken found s) out

@@ -21,8 +21,8 @@ use Rattle.pc_rules.specs.Context.{Context}
 use Rattle.pc_rules.specs.Calls.{arguments_given, is_range, range_item}
 use Rattle.pc_rules.specs.Computed.Findings.{codes_at}
 use Rattle.pc_rules.specs.Computed.Standing.{label_in, finds_in}
-use Rattle.pc_module_rules.specs.Computed.Statements.{Table, bound_type, known_declared, BodyContext, Walk}
-use Rattle.pc_module_rules.specs.Computed.Statements.{BindingResult, BranchesResult, at, with_way, narrowed_at, head_at}
+use Rattle.pc_module_rules.specs.Computed.Statements.{DeclaredTypes, bound_type, known_declared, BodyContext, Walk}
+use Rattle.pc_module_rules.specs.Computed.Statements.{BindingResult, BranchesResult, standing_here, with_way, narrowed_at, head_at}
 use Rattle.pc_module_rules.specs.Computed.Statements.{bind_label, bind_value, bind_annotated, annotation_finds}
 use Rattle.pc_module_rules.specs.Computed.Statements.{bound_name, bind_item, values_item, item_label_of, iterable_finds}
 use Rattle.pc_module_rules.specs.Computed.Statements.{assign_target, inside_for, step, walk_suite, walk_branches}
@@ -58,8 +58,8 @@ module _ (m : Module) (ctx : Context) (returned : Tree) where
     abbrev b : BodyContext
     b = standing k'
 
-    same_label : (table : Table) (env : Env) (want : Option Tree) (e : Expr)
-        → label_in (at a table env) want e ≡ label_in (at b table env) want e
+    same_label : (table : DeclaredTypes) (env : Env) (want : Option Tree) (e : Expr)
+        → label_in (standing_here a table env) want e ≡ label_in (standing_here b table env) want e
     unfolding label_in
     same_label table env want e = refl
 
@@ -72,7 +72,7 @@ module _ (m : Module) (ctx : Context) (returned : Tree) where
       env = noted_env a.keeps valued r p v ∙ h.env ∙ sym (noted_env b.keeps valued r p w);
     }
 
-    pub same_value : (table : Table) (env : Env) (r : NameMeaning) (annotation : Option Tree) (e : Expr) (f g : List Note)
+    pub same_value : (table : DeclaredTypes) (env : Env) (r : NameMeaning) (annotation : Option Tree) (e : Expr) (f g : List Note)
         → SameBinding (bind_value a table env r annotation e f) (bind_value b table env r annotation e g)
     same_value table env (res.Local x) annotation e f g =
         let want = known_declared (bound_type table x) annotation in
@@ -83,7 +83,7 @@ module _ (m : Module) (ctx : Context) (returned : Tree) where
         }
     same_value table env _ annotation e f g = record { table = refl; env = refl }
 
-    same_read : (table : Table) (env : Env) (r : NameMeaning) (n : Name) (ann : Ann) (e : Option Expr) (f g : List Note)
+    same_read : (table : DeclaredTypes) (env : Env) (r : NameMeaning) (n : Name) (ann : Ann) (e : Option Expr) (f g : List Note)
         → SameBinding (annotated_binding a table env r n ann e f) (annotated_binding b table env r n ann e g)
     same_read table env r n ann None f g = record { table = refl; env = refl }
     same_read table env r n ann (Some e) f g =
@@ -91,14 +91,14 @@ module _ (m : Module) (ctx : Context) (returned : Tree) where
         same_value table env r (Some (read_ann m ctx.bases ann)) e (f ++ annotation_finds a o n ann)
         (g ++ annotation_finds b o n ann)
 
-    pub same_annotated : (table : Table) (env : Env) (n : Name) (ann : Ann) (e : Option Expr) (f g : List Note)
+    pub same_annotated : (table : DeclaredTypes) (env : Env) (n : Name) (ann : Ann) (e : Option Expr) (f g : List Note)
         → SameBinding (bind_annotated a table env n ann e f) (bind_annotated b table env n ann e g)
     same_annotated table env n ann e f g =
         let r = ctx.resolve n.text in
         same_noted (is_some e) r n.place (annotated_binding a table env r n ann e f)
         (annotated_binding b table env r n ann e g) (same_read table env r n ann e f g)
 
-    same_assigned : (table : Table) (env : Env) (t : Target) (e : Expr) (f g : List Note)
+    same_assigned : (table : DeclaredTypes) (env : Env) (t : Target) (e : Expr) (f g : List Note)
         → SameBinding (assign_target a table env t e f) (assign_target b table env t e g)
     same_assigned table env (to_name n) e f g =
         let r = ctx.resolve n.text in
@@ -109,19 +109,19 @@ module _ (m : Module) (ctx : Context) (returned : Tree) where
 
     -- ---- what a `for` goes over
 
-    same_values : (table : Table) (env : Env) (e : Expr)
-        → values_item a (at a table env) e ≡ values_item b (at b table env) e
+    same_values : (table : DeclaredTypes) (env : Env) (e : Expr)
+        → values_item a (standing_here a table env) e ≡ values_item b (standing_here b table env) e
     same_values table env e = ap (λ (l : Label). offers_label ctx.bases (map (iterate_member ctx.bases) (members
         l.type))) (same_label table env None e)
 
-    pub same_item : (table : Table) (env : Env) (e : Expr)
-        → item_label_of a (at a table env) e ≡ item_label_of b (at b table env) e
+    pub same_item : (table : DeclaredTypes) (env : Env) (e : Expr)
+        → item_label_of a (standing_here a table env) e ≡ item_label_of b (standing_here b table env) e
     same_item table env (call p (name n) args kws) = ap
         (λ (l : Label). if is_range (ctx.resolve n.text) then range_item (arguments_given args kws) else l)
         (same_values table env (call p (name n) args kws))
     same_item table env e = same_values table env e
 
-    same_target : (table : Table) (head : Env) (r : NameMeaning) (p : Place) (t u : Tree) → t ≡ u → (f g : List Note)
+    same_target : (table : DeclaredTypes) (head : Env) (r : NameMeaning) (p : Place) (t u : Tree) → t ≡ u → (f g : List Note)
         → SameBinding (bind_item a table head r p t f) (bind_item b table head r p u g)
     same_target table head (res.Local x) p t u e f g = record {
       table = ap (λ (v : Tree). (bind_label b table head x (bound_type table x) p (clean v) g).table) e;
@@ -129,7 +129,7 @@ module _ (m : Module) (ctx : Context) (returned : Tree) where
     }
     same_target table head _ p t u e f g = record { table = refl; env = refl }
 
-    pub same_item_bound : (table : Table) (head : Env) (n : Name) (p : Place) (t u : Tree) → t ≡ u → (f g : List Note)
+    pub same_item_bound : (table : DeclaredTypes) (head : Env) (n : Name) (p : Place) (t u : Tree) → t ≡ u → (f g : List Note)
         → SameBinding (with_note a true (ctx.resolve n.text) n.place
         (bind_item a table head (ctx.resolve n.text) p t f))
         (with_note b true (ctx.resolve n.text) n.place (bind_item b table head (ctx.resolve n.text) p u g))
@@ -148,7 +148,7 @@ module _ (m : Module) (ctx : Context) (returned : Tree) where
     }
 
     mutual
-      pub same_step : (table : Table) (env : Option Env) (broken : Option Env) (f g : List Note) (s : Stmt)
+      pub same_step : (table : DeclaredTypes) (env : Option Env) (broken : Option Env) (f g : List Note) (s : Stmt)
           → SameWalk (step a table env broken f s) (step b table env broken g s)
       same_step table None broken f g s = record { table = refl; env = refl; broken = refl }
       same_step table (Some env) broken f g (pass p) = record { table = refl; env = refl; broken = refl }
@@ -171,15 +171,15 @@ module _ (m : Module) (ctx : Context) (returned : Tree) where
             broken = Some (narrowed_at a table false c head);
             found = found;
           } in
-          let h = same_suite (from (f ++ finds_in (at a table head) None c))
-          (from (g ++ finds_in (at b table head) None c)) (record { table = refl; env = refl; broken = refl }) body in
+          let h = same_suite (from (f ++ finds_in (standing_here a table head) None c))
+          (from (g ++ finds_in (standing_here b table head) None c)) (record { table = refl; env = refl; broken = refl }) body in
           record { table = h.table; env = h.broken; broken = refl }
       same_step table (Some env) broken f g (for_loop p n e body) =
           let head = head_at a table (n ∷ bound_by body) env in
-          let i = item_label_of a (at a table env) e in
-          let j = item_label_of b (at b table env) e in
-          let x = (f ++ iterable_finds a (at a table env) e) ++ codes_at (place_of e) i.codes in
-          let y = (g ++ iterable_finds b (at b table env) e) ++ codes_at (place_of e) j.codes in
+          let i = item_label_of a (standing_here a table env) e in
+          let j = item_label_of b (standing_here b table env) e in
+          let x = (f ++ iterable_finds a (standing_here a table env) e) ++ codes_at (place_of e) i.codes in
+          let y = (g ++ iterable_finds b (standing_here b table env) e) ++ codes_at (place_of e) j.codes in
           let t = same_item_bound table head n (place_of e) i.type j.type
           (ap (λ (l : Label). l.type) (same_item table env e)) x y in
           let h = same_suite
@@ -226,13 +226,13 @@ module _ (m : Module) (ctx : Context) (returned : Tree) where
             table = v.table;
             env = Some (narrowed_at a v.table true c v.last);
             broken = v.broken;
-            found = v.found ++ finds_in (at a v.table v.last) None c;
+            found = v.found ++ finds_in (standing_here a v.table v.last) None c;
           } in
           let y : Walk = record {
             table = w.table;
             env = Some (narrowed_at b w.table true c w.last);
             broken = w.broken;
-            found = w.found ++ finds_in (at b w.table w.last) None c;
+            found = w.found ++ finds_in (standing_here b w.table w.last) None c;
           } in
           let s = same_suite x y (record {
             table = h.table;

@@ -11,7 +11,7 @@ use Rattle.pc_flow.specs.Environment.{declared_type}
 use Rattle.pc_rules.specs.Context.{Context}
 use Rattle.pc_module_rules.specs.Computed.Statements.{type_table, bound_type}
 use Rattle.pc_module_rules.specs.Statements.{NamesBound}
-use Rattle.pc_module_rules.specs.Laws.Labellings.{Locals}
+use Rattle.pc_module_rules.specs.Laws.Labellings.{NumberedLocals}
 
 -- as the table says
 pub type_of_bound : (os : List (Option Tree)) (x : ℕ) → declared_type (type_table os) x ≡ unwrap_or (bound_type os x)
@@ -33,7 +33,7 @@ none_bound zero x = refl
 none_bound (suc n) zero = refl
 none_bound (suc n) (suc x) = none_bound n x
 
-module _ (ctx : Context) (count : ℕ) (names : Locals ctx count) where
+module _ (ctx : Context) (count : ℕ) (names : NumberedLocals ctx count) where
   -- a name of a local is among those seen where its local has a type: it is bound first where there is none
   abbrev pub IsLabelled : NamesBound → List (Option Tree) → Type 0
   IsLabelled seen os = (word : List ℕ) (x : ℕ) → ctx.resolve word ≡ res.Local x

@@ -14,7 +14,7 @@ use Rattle.pc_rules.specs.Labels.{whole_label, type_of}
 use Rattle.pc_rules.specs.Signatures.{binds_name, initializer_context, annotated_types, constant_type, first_of_types}
 use Rattle.pc_rules.proofs.Contexts.{initializers_well_formed}
 use Rattle.pc_rules.proofs.ComputedLawful.{has_labels}
-use Rattle.pc_module_rules.specs.Modules.{BeforeItem, HasLabelling, ItemLabels, ItemsLabels, LawfulItem}
+use Rattle.pc_module_rules.specs.Modules.{BeforeItem, HasLabelling, ItemLabels, ModuleItemsLabels, LawfulItem}
 use Rattle.pc_module_rules.specs.Modules.{LawfulModuleItems, before_next, constant_types, nothing_before}
 use Rattle.pc_module_rules.proofs.LabelledFunctions.{function_labelled, members_labelled}
 use Rattle.pc_module_rules.proofs.LabelledExpressions.{flows_labelled}
@@ -64,7 +64,7 @@ module _ (m : Module) where
 
   -- labels of items with all constants' types known, whatever those are
   record AllLabelled (b : BeforeItem) (items : List Item) (types all : List Tree) : Type 0 where
-    labels : ItemsLabels items
+    labels : ModuleItemsLabels items
     lawful : LawfulModuleItems m all b items labels
     is : constant_types m items labels ≡ types
 

@@ -13,7 +13,7 @@ use Rattle.pc_scope.specs.Resolution.{resolve_in_module}
 use Rattle.pc_types.specs.Tree.{Tree}
 use Rattle.pc_rules.specs.Signatures.{body_context}
 use Rattle.std.proofs.lemmas.Option.{same_Some}
-use Rattle.pc_module_rules.specs.Laws.Labellings.{Locals}
+use Rattle.pc_module_rules.specs.Laws.Labellings.{NumberedLocals}
 
 -- a name that has an index stands there
 index_get : (word : List ℕ) (ts : List (List ℕ)) (x : ℕ) → index_of word ts ≡ Some x → slice_get ts x ≡ Some word
@@ -90,7 +90,7 @@ local_get m names word x e = go (index_of word names) refl e
 
 -- the names of a function mean as many locals, no two the same
 pub names_are : (m : Module) (constants : List Tree) (names : List (List ℕ))
-    → Locals (body_context m constants names) (length names)
+    → NumberedLocals (body_context m constants names) (length names)
 names_are m constants names = record {
   below = λ word x e. get_below names x word (local_get m names word x e);
   apart = λ a b x e f. same_Some _ _ (sym (local_get m names a x e) ∙ local_get m names b x f);

@@ -38,7 +38,7 @@ use Rattle.pc_rules.specs.Computed.Signatures.{class_notes, behind, items_findin
 use Rattle.pc_rules.specs.Computed.Standing.{label_in, finds_in}
 use Rattle.pc_rules.proofs.Contexts.{bodies_well_formed}
 use Rattle.pc_module_rules.specs.Modules.{entry_parameters, names_entered, entry_env, FunctionLabels, LawfulFunction}
-use Rattle.pc_module_rules.specs.Modules.{MembersLabels, LawfulMembers, ItemsLabels, constant_types}
+use Rattle.pc_module_rules.specs.Modules.{MembersLabels, LawfulMembers, ModuleItemsLabels, constant_types}
 use Rattle.pc_module_rules.specs.Modules.{BeforeItem, nothing_before, before_next, LawfulModuleItems, Labelling}
 use Rattle.pc_module_rules.specs.Modules.{IsLawful}
 use Rattle.pc_module_rules.specs.NamesOfStatements.{NameAt, names_in_suite}
@@ -139,7 +139,7 @@ module _ (m : Module) where
       (plain_nameless (option_findings m bases c.annotation)) (value_nameless r into c.value)
 
   items_name : (all : List Tree) (b : BeforeItem) → AreWellFormed bases b.constants → (items : List Item)
-      → (labels : ItemsLabels items) → LawfulModuleItems m all b items labels
+      → (labels : ModuleItemsLabels items) → LawfulModuleItems m all b items labels
       → Names (items_findings m true (reached_at b) items) (names_of_constants m items labels)
   items_name all b kb [] labels l = record { are = refl }
   items_name all b kb (constant_item p c ∷ rest) labels l =
@@ -222,7 +222,7 @@ module _ (m : Module) where
         (function_names (owners.Method c number) f labels.method l.method found)
         (methods_name base c (suc number) (f.name.text ∷ before) rest labels.rest l.others one)
 
-    bodies_name : (b : BeforeItem) (items : List Item) (labels : ItemsLabels items)
+    bodies_name : (b : BeforeItem) (items : List Item) (labels : ModuleItemsLabels items)
         → LawfulModuleItems m all b items labels → (found : List Note)
         → NamesMore found (bodies_find true m all b.classes b.functions items found)
         (names_in_bodies m b.classes b.functions items labels)

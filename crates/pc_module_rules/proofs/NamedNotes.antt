@@ -11,14 +11,14 @@ use Rattle.pc_scope.specs.declared.resolution.NameMeaning.TheVariants as res
 use Rattle.pc_types.specs.Tree.{Tree}
 use Rattle.pc_flow.specs.Agreement.{SameWhere}
 use Rattle.pc_flow.specs.Environment.{Env, current, declared_type, assigned_type}
-use Rattle.pc_notes.specs.Notes.{Note, name_in, names_of}
+use Rattle.pc_notes.specs.Notes.{Note, name_of_note, names_of_notes}
 use Rattle.pc_rules.specs.Labels.{FlowLabels}
 use Rattle.pc_module_rules.specs.Statements.{NamesBound, only_code, bound_env}
 use Rattle.pc_module_rules.specs.NamesOfStatements.{NameAt, name_bound, name_declared}
 use Rattle.pc_module_rules.specs.Laws.Labellings.{Surroundings}
 use Rattle.pc_module_rules.specs.Laws.Names.{as_noted}
 use Rattle.pc_module_rules.specs.Laws.Walks.{TableFits, EnvFits}
-use Rattle.pc_module_rules.specs.Computed.Statements.{Table, type_table, bound_type, BindingResult, local_note}
+use Rattle.pc_module_rules.specs.Computed.Statements.{DeclaredTypes, type_table, bound_type, BindingResult, local_note}
 use Rattle.pc_module_rules.specs.Computed.Statements.{name_note, noted_binding}
 use Rattle.pc_module_rules.proofs.BoundNames.{here_among}
 use Rattle.pc_module_rules.proofs.EnteredTables.{long_types}
@@ -27,11 +27,11 @@ use Rattle.pc_module_rules.proofs.NamelessNotes.{AreNameless}
 -- ---- notes that name just these
 
 pub record Names (notes : List Note) (rows : List NameAt) : Type 0 where
-  pub are : names_of notes ≡ map as_noted rows
+  pub are : names_of_notes notes ≡ map as_noted rows
 
 pub name_both : (xs ys : List Note) (a b : List NameAt) → Names xs a → Names ys b → Names (xs ++ ys) (a ++ b)
 name_both xs ys a b h k = record {
-  are = flat_map-append name_in xs ys ∙ (λ i. h.are i ++ k.are i) ∙ sym (map-append as_noted a b);
+  are = flat_map-append name_of_note xs ys ∙ (λ i. h.are i ++ k.are i) ∙ sym (map-append as_noted a b);
 }
 
 -- of notes after nameless ones
@@ -42,23 +42,23 @@ name_after_none xs ys b h k = name_both xs ys [] b (record { are = h.are }) k
 
 -- more notes name just these besides
 pub record NamesMore (found after : List Note) (rows : List NameAt) : Type 0 where
-  pub are : names_of after ≡ names_of found ++ map as_noted rows
+  pub are : names_of_notes after ≡ names_of_notes found ++ map as_noted rows
 
 pub more_none : (found : List Note) → NamesMore found found []
-more_none found = record { are = sym (append-nil (names_of found)) }
+more_none found = record { are = sym (append-nil (names_of_notes found)) }
 
 pub more_nameless : (found xs : List Note) → AreNameless xs → NamesMore found (found ++ xs) []
 more_nameless found xs h = record {
-  are = flat_map-append name_in found xs
-      ∙ ap (λ (rows : List (Place × Tree × Option Tree)). names_of found ++ rows) h.are;
+  are = flat_map-append name_of_note found xs
+      ∙ ap (λ (rows : List (Place × Tree × Option Tree)). names_of_notes found ++ rows) h.are;
 }
 
 pub more_then : (f g h : List Note) (a b : List NameAt) → NamesMore f g a → NamesMore g h b → NamesMore f h (a ++ b)
 more_then f g h a b x y = record {
   are = y.are
       ∙ ap (λ (rows : List (Place × Tree × Option Tree)). rows ++ map as_noted b) x.are
-      ∙ append_assoc (names_of f) (map as_noted a) (map as_noted b)
-      ∙ ap (λ (rows : List (Place × Tree × Option Tree)). names_of f ++ rows) (sym (map-append as_noted a b));
+      ∙ append_assoc (names_of_notes f) (map as_noted a) (map as_noted b)
+      ∙ ap (λ (rows : List (Place × Tree × Option Tree)). names_of_notes f ++ rows) (sym (map-append as_noted a b));
 }
 
 -- notes that name just these, with more after them
@@ -104,8 +104,8 @@ module _ (setting : Surroundings) (declared : List Tree) where
         let same : name_note valued b.table b.env (res.Local x) n.place ≡ notes (Some (declared_type declared x)) after =
         λ j. notes (here j) (is j) in
         record {
-          are = flat_map-append name_in b.found (name_note valued b.table b.env (res.Local x) n.place)
-              ∙ ap (λ (xs : List Note). names_of b.found ++ names_of xs) same;
+          are = flat_map-append name_of_note b.found (name_note valued b.table b.env (res.Local x) n.place)
+              ∙ ap (λ (xs : List Note). names_of_notes b.found ++ names_of_notes xs) same;
         }
 
     -- the note of a bound name names it so
@@ -120,7 +120,7 @@ module _ (setting : Surroundings) (declared : List Tree) where
     note_names valued b after res.None i fits is = more_nameless b.found [] (record { are = refl })
 
     -- a local that a type was assigned to
-    pub assigned_named : (table : Table) → TableFits setting declared seen table → (env : Env)
+    pub assigned_named : (table : DeclaredTypes) → TableFits setting declared seen table → (env : Env)
         → EnvFits setting declared table env → (x : ℕ) → ctx.resolve n.text ≡ res.Local x → (from : Tree)
         (flows : FlowLabels) (after : Env) → after ≡ bound_env m ctx declared env x from flows
         → bound_as true n (res.Local x) after ≡ name_bound ctx.resolve declared n (res.Local x) from flows

@@ -34,8 +34,8 @@ use Rattle.pc_module_rules.specs.Statements.{LawfulTarget, LawfulStmt, LawfulSui
 use Rattle.pc_module_rules.specs.NamesOfStatements.{NameAt, name_bound, name_annotated, names_in_stmt, names_in_suite}
 use Rattle.pc_module_rules.specs.NamesOfStatements.{names_in_branches}
 use Rattle.pc_module_rules.specs.Laws.Labellings.{Surroundings}
-use Rattle.pc_module_rules.specs.Computed.Statements.{Table, bound_type, known_declared, BodyContext, Walk}
-use Rattle.pc_module_rules.specs.Computed.Statements.{BindingResult, BranchesResult, at, with_way, narrowed_at, head_at}
+use Rattle.pc_module_rules.specs.Computed.Statements.{DeclaredTypes, bound_type, known_declared, BodyContext, Walk}
+use Rattle.pc_module_rules.specs.Computed.Statements.{BindingResult, BranchesResult, standing_here, with_way, narrowed_at, head_at}
 use Rattle.pc_module_rules.specs.Computed.Statements.{item_label_of, iterable_finds, bind_label, bind_value, bind_annotated}
 use Rattle.pc_module_rules.specs.Computed.Statements.{annotation_finds, annotated_binding, bound_name, bind_item}
 use Rattle.pc_module_rules.specs.Computed.Statements.{store_finds, assign_target, option_finds, return_finds}
@@ -65,7 +65,7 @@ module _ (setting : Surroundings) (returned : Tree) (kr : IsWellFormed setting.c
   abbrev bare : BodyContext
   bare = body_context_in setting returned
 
-  abbrev TableHere : NamesBound → Table → Type 0
+  abbrev TableHere : NamesBound → DeclaredTypes → Type 0
   TableHere seen table = TableFits setting declared seen table
 
   abbrev LawfulHere : NamesBound → Env → (s : Stmt) → StmtLabels s → Option Env → Type 0
@@ -86,33 +86,33 @@ module _ (setting : Surroundings) (returned : Tree) (kr : IsWellFormed setting.c
   -- ---- a name bound
 
   -- binding a value names nothing before its note
-  label_nameless : (table : Table) (env : Env) (x : ℕ) (want : Option Tree) (p : Place) (label : Label)
+  label_nameless : (table : DeclaredTypes) (env : Env) (x : ℕ) (want : Option Tree) (p : Place) (label : Label)
       (found : List Note) → NamesMore found (bind_label kept table env x want p label found).found []
   label_nameless table env x want p label found =
       let flows = flows_of ctx.bases label (unwrap_or want label.type ∷ []) in
       more_nameless found (flows_at p flows) (flows_nameless p flows)
 
-  value_nameless : (table : Table) (env : Env) (r : NameMeaning) (annotation : Option Tree) (e : Expr)
+  value_nameless : (table : DeclaredTypes) (env : Env) (r : NameMeaning) (annotation : Option Tree) (e : Expr)
       (found : List Note) → NamesMore found (bind_value kept table env r annotation e found).found []
   value_nameless table env (res.Local x) annotation e found =
       let want = known_declared (bound_type table x) annotation in
-      let finds = finds_in (at kept table env) want e in
-      let label = label_in (at kept table env) want e in
+      let finds = finds_in (standing_here kept table env) want e in
+      let label = label_in (standing_here kept table env) want e in
       more_then found (found ++ finds) (bind_label kept table env x want (place_of e) label (found ++ finds)).found []
-      [] (more_nameless found finds (read_nameless (at kept table env) want e))
+      [] (more_nameless found finds (read_nameless (standing_here kept table env) want e))
       (label_nameless table env x want (place_of e) label (found ++ finds))
   value_nameless table env (res.Const c) annotation e found = more_nameless found
-      (finds_in (at kept table env) None e) (read_nameless (at kept table env) None e)
+      (finds_in (standing_here kept table env) None e) (read_nameless (standing_here kept table env) None e)
   value_nameless table env (res.Func c) annotation e found = more_nameless found
-      (finds_in (at kept table env) None e) (read_nameless (at kept table env) None e)
+      (finds_in (standing_here kept table env) None e) (read_nameless (standing_here kept table env) None e)
   value_nameless table env (res.Class c) annotation e found = more_nameless found
-      (finds_in (at kept table env) None e) (read_nameless (at kept table env) None e)
+      (finds_in (standing_here kept table env) None e) (read_nameless (standing_here kept table env) None e)
   value_nameless table env (res.Builtin c) annotation e found = more_nameless found
-      (finds_in (at kept table env) None e) (read_nameless (at kept table env) None e)
+      (finds_in (standing_here kept table env) None e) (read_nameless (standing_here kept table env) None e)
   value_nameless table env res.None annotation e found = more_nameless found
-      (finds_in (at kept table env) None e) (read_nameless (at kept table env) None e)
+      (finds_in (standing_here kept table env) None e) (read_nameless (standing_here kept table env) None e)
 
-  item_nameless : (table : Table) (head : Env) (r : NameMeaning) (p : Place) (t : Tree) (found : List Note)
+  item_nameless : (table : DeclaredTypes) (head : Env) (r : NameMeaning) (p : Place) (t : Tree) (found : List Note)
       → NamesMore found (bind_item kept table head r p t found).found []
   item_nameless table head (res.Local x) p t found = label_nameless table head x (bound_type table x) p (clean t) found
   item_nameless table head (res.Const c) p t found = more_none found
@@ -125,7 +125,7 @@ module _ (setting : Surroundings) (returned : Tree) (kr : IsWellFormed setting.c
   annotation_nameless (Some d) n a = plain_nameless (finding n.place E24 ∷ [])
   annotation_nameless None n a = plain_nameless (ann_findings m ctx.bases a)
 
-  read_annotated : (table : Table) (env : Env) (r : NameMeaning) (n : Name) (a : Ann) (e : Option Expr)
+  read_annotated : (table : DeclaredTypes) (env : Env) (r : NameMeaning) (n : Name) (a : Ann) (e : Option Expr)
       (found : List Note) → NamesMore found (annotated_binding kept table env r n a e found).found []
   read_annotated table env r n a None found =
       let finds = annotation_finds kept (bound_name kept table r) n a in
@@ -148,7 +148,7 @@ module _ (setting : Surroundings) (returned : Tree) (kr : IsWellFormed setting.c
       (noted_binding true valued (ctx.resolve n.text) n.place b).found []
       (bound_as setting declared valued n (ctx.resolve n.text) after) h k
 
-  module _ (seen : NamesBound) (n : Name) (table : Table) (t : TableHere seen table)
+  module _ (seen : NamesBound) (n : Name) (table : DeclaredTypes) (t : TableHere seen table)
     where
       -- a value bound is named with the type that it was assigned
       binding_row : (r : NameMeaning) → ctx.resolve n.text ≡ r → (env : Env) → EnvFits setting declared table env
@@ -200,7 +200,7 @@ module _ (setting : Surroundings) (returned : Tree) (kr : IsWellFormed setting.c
           (annotated_row env f a e labels flows after l)
           (noted (is_some e) n b after found (read_annotated table env r n a e found)
           (note_names setting declared seen n (is_some e) b after r refl
-          (subst (λ (u : Table). TableHere (n.text ∷ seen) u) (sym same.table) says.fits) (same.env ∙ says.env_is)))
+          (subst (λ (u : DeclaredTypes). TableHere (n.text ∷ seen) u) (sym same.table) says.fits) (same.env ∙ says.env_is)))
 
       assigned_names : (env : Env) → EnvFits setting declared table env → (e : Expr) (labels : Labels e)
           (flows : FlowLabels) (after : Env) (found : List Note)
@@ -217,9 +217,9 @@ module _ (setting : Surroundings) (returned : Tree) (kr : IsWellFormed setting.c
           (binding_row r refl env f None e labels flows after l)
           (noted true n b after found (value_nameless table env r None e found)
           (note_names setting declared seen n true b after r refl
-          (subst (λ (u : Table). TableHere (n.text ∷ seen) u) (sym same.table) says.fits) (same.env ∙ says.env_is)))
+          (subst (λ (u : DeclaredTypes). TableHere (n.text ∷ seen) u) (sym same.table) says.fits) (same.env ∙ says.env_is)))
 
-  assignment_names : (seen : NamesBound) (table : Table) (env : Env) (found : List Note)
+  assignment_names : (seen : NamesBound) (table : DeclaredTypes) (env : Env) (found : List Note)
       → TableHere seen table → EnvFits setting declared table env → (p : Place)
       (t : Target) (e : Expr) (labels : StmtLabels (assigns p t e)) (out : Option Env)
       → LawfulHere seen env (assigns p t e) labels out
@@ -227,11 +227,11 @@ module _ (setting : Surroundings) (returned : Tree) (kr : IsWellFormed setting.c
   assignment_names seen table env found t f p (to_name n) e labels out l = assigned_names seen n table t env f e
       labels.value labels.flows l.after found l.assignment
   assignment_names seen table env found t f p (to_attribute q o field) e labels out l =
-      more_nameless found (store_finds kept (at kept table env) (to_attribute q o field) e)
-      (store_nameless (at kept table env) kept (to_attribute q o field) e)
+      more_nameless found (store_finds kept (standing_here kept table env) (to_attribute q o field) e)
+      (store_nameless (standing_here kept table env) kept (to_attribute q o field) e)
   assignment_names seen table env found t f p (to_index q o i) e labels out l =
-      more_nameless found (store_finds kept (at kept table env) (to_index q o i) e)
-      (store_nameless (at kept table env) kept (to_index q o i) e)
+      more_nameless found (store_finds kept (standing_here kept table env) (to_index q o i) e)
+      (store_nameless (standing_here kept table env) kept (to_index q o i) e)
 
   -- ---- statements, suites and branches
 
@@ -244,7 +244,7 @@ module _ (setting : Surroundings) (returned : Tree) (kr : IsWellFormed setting.c
       → NamesMore w.found (walk_suite kept w b).found (names_of_suite b labels)
 
   -- the notes of a statement and of those after it name the names in them
-  behind_names : (b : Test) (seen : NamesBound) (env : Env) (table : Table) (found : List Note) (s : Stmt)
+  behind_names : (b : Test) (seen : NamesBound) (env : Env) (table : DeclaredTypes) (found : List Note) (s : Stmt)
       (rest : Stmts) (s0 : StmtLabels s) (r : Behind b (Following (SuiteLabels rest))) (out : Option Env) (v : Walk)
       → ((o : Option Env) → LawfulHere seen env s s0 o
       → Stands setting returned kr declared (texts (bound_by_stmt s) ++ seen) table v o
@@ -277,7 +277,7 @@ module _ (setting : Surroundings) (returned : Tree) (kr : IsWellFormed setting.c
     names : NamesMore found w.found rows
 
   mutual
-    stmt_names : (seen : NamesBound) (table : Table) (env : Env) (broken : Option Env) (found : List Note)
+    stmt_names : (seen : NamesBound) (table : DeclaredTypes) (env : Env) (broken : Option Env) (found : List Note)
         → TableHere seen table → EnvFits setting declared table env → OutFits setting declared table broken
         → (s : Stmt) (labels : StmtLabels s) (out : Option Env)
         → LawfulHere seen env s labels out
@@ -286,20 +286,20 @@ module _ (setting : Surroundings) (returned : Tree) (kr : IsWellFormed setting.c
     stmt_names seen table env broken found t f kb (breaks p) labels out l = more_none found
     stmt_names seen table env broken found t f kb (continues p) labels out l = more_none found
     stmt_names seen table env broken found t f kb (returns p e) labels out l =
-        more_nameless found (return_finds kept (at kept table env) p e)
-        (return_nameless (at kept table env) kept p e)
+        more_nameless found (return_finds kept (standing_here kept table env) p e)
+        (return_nameless (standing_here kept table env) kept p e)
     stmt_names seen table env broken found t f kb (asserts p c e) labels out l =
-        let xs = finds_in (at kept table env) None c in
-        let no = at kept table (narrowed_at kept table false c env) in
+        let xs = finds_in (standing_here kept table env) None c in
+        let no = standing_here kept table (narrowed_at kept table false c env) in
         more_then found (found ++ xs) ((found ++ xs) ++ option_finds kept no None e) [] []
-        (more_nameless found xs (read_nameless (at kept table env) None c))
+        (more_nameless found xs (read_nameless (standing_here kept table env) None c))
         (more_nameless (found ++ xs) (option_finds kept no None e) (option_nameless no kept None e))
     stmt_names seen table env broken found t f kb (annotated p n a e) labels out l = annotated_names seen n table t env
         f p a e labels.value labels.flows l.after found l.binding
     stmt_names seen table env broken found t f kb (assigns p x e) labels out l = assignment_names seen table env found t
         f p x e labels out l
     stmt_names seen table env broken found t f kb (evaluates p e) labels out l =
-        more_nameless found (finds_in (at kept table env) None e) (read_nameless (at kept table env) None e)
+        more_nameless found (finds_in (standing_here kept table env) None e) (read_nameless (standing_here kept table env) None e)
     stmt_names seen table env broken found t f kb (while_loop p c b) labels out l =
         let kt = t.well_formed in
         let bound = binds_number ctx.resolve (bound_by b) in
@@ -307,7 +307,7 @@ module _ (setting : Surroundings) (returned : Tree) (kr : IsWellFormed setting.c
         (head_fits setting declared table kt bound env f) in
         let q : labels.head ≡ head_at kept table (bound_by b) env = l.head
         ∙ head_same setting declared table kt bound env f in
-        let xs = finds_in (at kept table labels.head) None c in
+        let xs = finds_in (standing_here kept table labels.head) None c in
         let yes = truth_same setting declared table kt true c labels.head fh in
         let no = truth_same setting declared table kt false c labels.head fh in
         let out_of = subst (EnvFits setting declared table) no (truth_fits setting declared table kt false c labels.head
@@ -325,11 +325,11 @@ module _ (setting : Surroundings) (returned : Tree) (kr : IsWellFormed setting.c
           table = table;
           env = Some (narrowed_at kept table true c h);
           broken = Some (narrowed_at kept table false c h);
-          found = found ++ finds_in (at kept table h) None c;
+          found = found ++ finds_in (standing_here kept table h) None c;
         })
         b)).found rows) q
         (more_then found (found ++ xs) (walk_suite kept start b).found [] rows
-        (more_nameless found xs (read_nameless (at kept table labels.head) None c))
+        (more_nameless found xs (read_nameless (standing_here kept table labels.head) None c))
         (suite_names seen b start (narrow ctx.bases declared ctx.resolve true c labels.head) (ap Some (sym yes)) t
         (truth_fits setting declared table kt true c labels.head fh) out_of labels.body labels.out l.body))
     stmt_names seen table env broken found t f kb (for_loop p n e b) labels out l =
@@ -341,9 +341,9 @@ module _ (setting : Surroundings) (returned : Tree) (kr : IsWellFormed setting.c
         let q : labels.head ≡ head_at kept table (n ∷ bound_by b) env = l.head
         ∙ head_same setting declared table kt names env f in
         let it = iterable_told setting declared table kt env f returned e labels.iterable labels.item l.iterable in
-        let item = item_label_of kept (at kept table env) e in
+        let item = item_label_of kept (standing_here kept table env) e in
         let item_is : item ≡ labels.item = same_item m ctx returned true false table env e ∙ it.item_is in
-        let xs = iterable_finds kept (at kept table env) e in
+        let xs = iterable_finds kept (standing_here kept table env) e in
         let ys = codes_at (place_of e) item.codes in
         let before = (found ++ xs) ++ ys in
         let bound = bind_item kept table labels.head r (place_of e) item.type before in
@@ -355,7 +355,7 @@ module _ (setting : Surroundings) (returned : Tree) (kr : IsWellFormed setting.c
         labels.item it.well_formed (place_of e) labels.flows l.inside before l.target in
         let back : other.table ≡ start.table = sym same.table in
         let env_is : bound.env ≡ l.inside = same.env ∙ tg.env_is in
-        let fits = subst (λ (u : Table). TableHere (n.text ∷ seen) u) back tg.fits in
+        let fits = subst (λ (u : DeclaredTypes). TableHere (n.text ∷ seen) u) back tg.fits in
         let row = name_bound ctx.resolve declared n r labels.item.type labels.flows in
         let rows = names_of_suite b labels.body in
         let body = inside_for kept labels.head start in
@@ -370,12 +370,12 @@ module _ (setting : Surroundings) (returned : Tree) (kr : IsWellFormed setting.c
         (bind_item kept table h r (place_of e) item.type before))) b)).found (row ++ rows)) q
         (more_then found before (walk_suite kept body b).found [] (row ++ rows)
         (more_then found (found ++ xs) before [] []
-        (more_nameless found xs (iterable_nameless (at kept table env) kept e))
+        (more_nameless found xs (iterable_nameless (standing_here kept table env) kept e))
         (more_nameless (found ++ xs) ys (codes_nameless (place_of e) item.codes)))
         (more_then before start.found (walk_suite kept body b).found row rows named
         (suite_names (n.text ∷ seen) b body l.inside (ap Some env_is) fits
-        (subst (λ (u : Table). EnvFits setting declared u l.inside) back tg.env_fits)
-        (subst (λ (u : Table). EnvFits setting declared u labels.head) back (tg.grows labels.head fh))
+        (subst (λ (u : DeclaredTypes). EnvFits setting declared u l.inside) back tg.env_fits)
+        (subst (λ (u : DeclaredTypes). EnvFits setting declared u labels.head) back (tg.grows labels.head fh))
         labels.body labels.out l.body)))
     stmt_names seen table env broken found t f kb (conditional p bs o) labels out l =
         let start : BranchesResult = record {
@@ -432,7 +432,7 @@ module _ (setting : Surroundings) (returned : Tree) (kr : IsWellFormed setting.c
     }
     branches_name seen w env e t f kb (more_branches c b rest) labels last l =
         let kt = t.well_formed in
-        let xs = finds_in (at kept w.table env) None c in
+        let xs = finds_in (standing_here kept w.table env) None c in
         let yes = truth_same setting declared w.table kt true c env f in
         let no = truth_same setting declared w.table kt false c env f in
         let start : Walk = record {
@@ -475,7 +475,7 @@ module _ (setting : Surroundings) (returned : Tree) (kr : IsWellFormed setting.c
           last_fits = others.last_fits;
           broken_fits = others.broken_fits;
           names = more_then w.found (w.found ++ xs) (walk_branches kept next rest).found [] (inside ++ further)
-              (more_nameless w.found xs (read_nameless (at kept w.table env) None c))
+              (more_nameless w.found xs (read_nameless (standing_here kept w.table env) None c))
               (more_then (w.found ++ xs) u.found (walk_branches kept next rest).found inside further named
               others.names);
         })

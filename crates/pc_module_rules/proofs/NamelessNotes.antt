@@ -14,14 +14,14 @@ use Rattle.pc_tree.specs.Tree.{attribute, index, call, no_exprs, more_exprs, no_
 use Rattle.pc_tree.specs.Tree.{more_keywords, Target, to_name, to_attribute, to_index}
 use Rattle.pc_scope.specs.Expressions.{is_instance_test}
 use Rattle.pc_types.specs.Tree.{Tree, NoneType}
-use Rattle.pc_notes.specs.Notes.{Note, told, plain_note, name_in, names_of}
+use Rattle.pc_notes.specs.Notes.{Note, told, plain_note, name_of_note, names_of_notes}
 use Rattle.pc_rules.specs.Operations.{Label, clean, StoreOffer, store_codes, store_index_types, stored_types, only_type}
 use Rattle.pc_rules.specs.Calls.{arguments_given, call_label, positional_seat, named_seat, is_range, range_offers}
 use Rattle.pc_rules.specs.Labels.{FlowLabels, Labels, ItemsLabels, EntriesLabels, KeywordsLabels, whole_label}
 use Rattle.pc_rules.specs.Labels.{is_of_scopes, second_place}
 use Rattle.pc_rules.specs.Computed.Expressions.{labels_of, flows_of}
 use Rattle.pc_rules.specs.Computed.Findings.{own_at, has_code, once, own_flow, flow_then, flows_behind, codes_at}
-use Rattle.pc_rules.specs.Computed.Findings.{flows_at, notes_of_code, type_noted, label_at, shows, whole, called}
+use Rattle.pc_rules.specs.Computed.Findings.{flows_at, notes_of_code, note_of_type, label_at, shows, whole, callee_notes}
 use Rattle.pc_rules.specs.Computed.Findings.{found_in_parts, found_in_items, found_in_arguments, found_in_entries}
 use Rattle.pc_rules.specs.Computed.Findings.{found_in_keywords, notes_under}
 use Rattle.pc_rules.specs.Computed.Standing.{Standing, label_in, finds_in, items_in, keywords_in, arguments_find}
@@ -32,13 +32,13 @@ use Rattle.pc_module_rules.specs.Computed.Statements.{store_finds, iterable_find
 
 -- notes that hold no bound name
 pub record AreNameless (notes : List Note) : Type 0 where
-  pub are : names_of notes ≡ []
+  pub are : names_of_notes notes ≡ []
 
 pub no_notes : AreNameless []
 no_notes = record { are = refl }
 
 pub nameless_both : (xs ys : List Note) → AreNameless xs → AreNameless ys → AreNameless (xs ++ ys)
-nameless_both xs ys h k = record { are = flat_map-append name_in xs ys ∙ (λ i. h.are i ++ k.are i) }
+nameless_both xs ys h k = record { are = flat_map-append name_of_note xs ys ∙ (λ i. h.are i ++ k.are i) }
 
 -- ---- findings
 
@@ -83,12 +83,12 @@ flows_nameless p flows = each_flow p flows []
 -- ---- expressions
 
 module _ (keeps : Test) where
-  type_nameless : (kept shown : Test) (p : Place) (t : Tree) → AreNameless (type_noted kept shown p t)
+  type_nameless : (kept shown : Test) (p : Place) (t : Tree) → AreNameless (note_of_type kept shown p t)
   type_nameless false shown p t = no_notes
   type_nameless true shown p t = record { are = refl }
 
   label_nameless : (shown : Test) (p : Place) (m : Label) → AreNameless (label_at keeps shown p m)
-  label_nameless shown p m = nameless_both (type_noted keeps shown p m.type) (codes_at p m.codes)
+  label_nameless shown p m = nameless_both (note_of_type keeps shown p m.type) (codes_at p m.codes)
       (type_nameless keeps shown p m.type) (codes_nameless p m.codes)
 
   whole_nameless : (e : Expr) (m : Labels e) (parts : List Note) → AreNameless parts
@@ -97,7 +97,7 @@ module _ (keeps : Test) where
       (label_nameless true (place_of e) (whole_label e m))
 
   called_nameless : (e : Expr) (m : Labels e) (parts : List Note) → AreNameless parts
-      → AreNameless (called keeps e m parts)
+      → AreNameless (callee_notes keeps e m parts)
   called_nameless e m parts h = nameless_both parts (label_at keeps (shows e) (place_of e) (whole_label e m)) h
       (label_nameless (shows e) (place_of e) (whole_label e m))
 

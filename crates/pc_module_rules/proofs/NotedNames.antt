@@ -7,7 +7,7 @@ use Rattle.pc_scope.specs.declared.resolution.NameMeaning.TheVariants as res
 use Rattle.pc_types.specs.Tree.{Tree}
 use Rattle.pc_flow.specs.Environment.{Env, current}
 use Rattle.pc_notes.specs.Notes.{Note, named}
-use Rattle.pc_module_rules.specs.Computed.Statements.{Table, bound_type, BindingResult, local_note, name_note}
+use Rattle.pc_module_rules.specs.Computed.Statements.{DeclaredTypes, bound_type, BindingResult, local_note, name_note}
 use Rattle.pc_module_rules.specs.Computed.Statements.{noted_binding}
 
 module _ (P : List Note → Type 0) (none : P []) (one : (p : Place) (d : Tree) (t : Option Tree) → P (named p d t ∷ []))
@@ -17,7 +17,7 @@ module _ (P : List Note → Type 0) (none : P []) (one : (p : Place) (d : Tree) 
     local_holds (Some d) now p = one p d now
 
     -- what holds of no notes and of each note of a name holds of the note of a name, if there is one
-    pub note_holds : (valued : Test) (table : Table) (env : Env) (r : NameMeaning) (p : Place)
+    pub note_holds : (valued : Test) (table : DeclaredTypes) (env : Env) (r : NameMeaning) (p : Place)
         → P (name_note valued table env r p)
     note_holds valued table env (res.Local x) p = local_holds (bound_type table x)
         (if valued then current env x else None) p

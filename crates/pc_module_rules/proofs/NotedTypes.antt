@@ -15,11 +15,11 @@ use Rattle.pc_tree.specs.Tree.{attribute, index, call, no_exprs, more_exprs, no_
 use Rattle.pc_tree.specs.Tree.{more_keywords}
 use Rattle.pc_scope.specs.Expressions.{is_instance_test}
 use Rattle.pc_types.specs.Tree.{Tree}
-use Rattle.pc_notes.specs.Notes.{Note, plain_note, flow_note, type_in, types_of}
+use Rattle.pc_notes.specs.Notes.{Note, plain_note, flow_note, shown_type, types_of}
 use Rattle.pc_rules.specs.Labels.{FlowLabels, Labels, ItemsLabels, EntriesLabels, KeywordsLabels, whole_label}
 use Rattle.pc_rules.specs.Labels.{is_of_scopes, second_place}
 use Rattle.pc_rules.specs.Computed.Findings.{own_at, has_code, once, own_flow, flow_then, flows_behind}
-use Rattle.pc_rules.specs.Computed.Findings.{codes_at, flows_at, notes_of_code, label_at, shows, whole, called}
+use Rattle.pc_rules.specs.Computed.Findings.{codes_at, flows_at, notes_of_code, label_at, shows, whole, callee_notes}
 use Rattle.pc_rules.specs.Computed.Findings.{found_in_parts, found_in_items, found_in_arguments, found_in_entries}
 use Rattle.pc_rules.specs.Computed.Findings.{found_in_keywords, notes_under}
 use Rattle.pc_module_rules.specs.TypesOfExpressions.{TypeAt, type_here, callee_here, types_in, types_inside}
@@ -38,7 +38,7 @@ show_nothing = record { are = refl }
 
 pub show_both : (xs ys : List Note) (a b : List TypeAt) → Shows xs a → Shows ys b → Shows (xs ++ ys) (a ++ b)
 show_both xs ys a b h k = record {
-  are = flat_map-append type_in xs ys ∙ (λ i. h.are i ++ k.are i) ∙ sym (map-append as_pair a b);
+  are = flat_map-append shown_type xs ys ∙ (λ i. h.are i ++ k.are i) ∙ sym (map-append as_pair a b);
 }
 
 -- with others after them, or before them, that show none
@@ -63,7 +63,7 @@ more_none found = record { are = sym (append-nil (types_of found)) }
 
 pub more : (found xs : List Note) (a : List TypeAt) → Shows xs a → ShowsMore found (found ++ xs) a
 more found xs a h = record {
-  are = flat_map-append type_in found xs ∙ ap (λ (rows : List (Place × Tree)). types_of found ++ rows) h.are;
+  are = flat_map-append shown_type found xs ∙ ap (λ (rows : List (Place × Tree)). types_of found ++ rows) h.are;
 }
 
 pub more_then : (f g h : List Note) (a b : List TypeAt) → ShowsMore f g a → ShowsMore g h b → ShowsMore f h (a ++ b)
@@ -91,9 +91,9 @@ pub show_plain : (fs : List Finding) → Shows (map plain_note fs) []
 show_plain [] = show_nothing
 show_plain (f ∷ fs) = record { are = (show_plain fs).are }
 
-unless : (b : Test) (n : Note) → type_in n ≡ [] → Shows (if b then [] else n ∷ []) []
+unless : (b : Test) (n : Note) → shown_type n ≡ [] → Shows (if b then [] else n ∷ []) []
 unless true n h = show_nothing
-unless false n h = record { are = append-nil (type_in n) ∙ h }
+unless false n h = record { are = append-nil (shown_type n) ∙ h }
 
 each_code : (p : Place) (cs : List Code) → Shows (flat_map (own_at p) cs) []
 each_code p [] = show_nothing
@@ -145,7 +145,7 @@ show_whole e m parts rows h = show_both parts (label_at true true (place_of e) (
     (label_shown e m)
 
 show_called : (e : Expr) (m : Labels e) (parts : List Note) (rows : List TypeAt) → Shows parts rows
-    → Shows (called true e m parts) (rows ++ callee_here e m)
+    → Shows (callee_notes true e m parts) (rows ++ callee_here e m)
 show_called e m parts rows h = show_both parts (label_at true (shows e) (place_of e) (whole_label e m)) rows
     (callee_here e m) h (callee_shown e m)
 

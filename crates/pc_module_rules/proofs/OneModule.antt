@@ -36,7 +36,7 @@ use Rattle.pc_module_rules.specs.Statements.{NamesBound}
 use Rattle.pc_module_rules.specs.Modules.{entry_parameters, names_entered, DeclaredEntry, LawfulEntry}
 use Rattle.pc_module_rules.specs.Modules.{assigned_at_entry, entry_env, ReturnsWell, leaves, may_complete, may_not}
 use Rattle.pc_module_rules.specs.Modules.{FunctionLabels, LawfulFunction, MembersLabels, LawfulMembers, ItemLabels}
-use Rattle.pc_module_rules.specs.Modules.{ItemsLabels, item_constants, constant_types, BeforeItem, before_next}
+use Rattle.pc_module_rules.specs.Modules.{ModuleItemsLabels, item_constants, constant_types, BeforeItem, before_next}
 use Rattle.pc_module_rules.specs.Modules.{nothing_before, LawfulItem, LawfulModuleItems, HasOneLabelling}
 use Rattle.pc_module_rules.proofs.OneStatement.{IsAmong, among_right, some_inj, local_inj, not_false, assign_kept}
 use Rattle.pc_module_rules.proofs.OneStatement.{SameSeen, suite_one}
@@ -320,7 +320,7 @@ constant_one m all all' b p c mk mk' h h' =
     (subst (λ x. FlowsInto (bases_of m) (whole_label c.value x) want mk.flows) q h.flow) h'.flow in
     λ i. record { value = q i; flows = f i }
 
-types_one : (m : Module) (all all' : List Tree) (b : BeforeItem) (items : List Item) (mk mk' : ItemsLabels items)
+types_one : (m : Module) (all all' : List Tree) (b : BeforeItem) (items : List Item) (mk mk' : ModuleItemsLabels items)
     → LawfulModuleItems m all b items mk → LawfulModuleItems m all' b items mk' → constant_types m items mk
     ≡ constant_types m items mk'
 types_one m all all' b [] mk mk' h h' = refl
@@ -341,7 +341,7 @@ item_one m all b (class_item p c) mk mk' h h' = members_one m all (base_class m 
     mk' h h'
 item_one m all b (def_item p f) mk mk' h h' = function_one m all (owners.Func b.functions) f mk mk' h h'
 
-all_items_one : (m : Module) (all : List Tree) (b : BeforeItem) (items : List Item) (mk mk' : ItemsLabels items)
+all_items_one : (m : Module) (all : List Tree) (b : BeforeItem) (items : List Item) (mk mk' : ModuleItemsLabels items)
     → LawfulModuleItems m all b items mk → LawfulModuleItems m all b items mk' → mk ≡ mk'
 all_items_one m all b [] mk mk' h h' = refl
 all_items_one m all b (i ∷ rest) mk mk' h h' =

@@ -36,8 +36,8 @@ use Rattle.pc_rules.specs.Computed.Expressions.{keywords_labels}
 use Rattle.pc_rules.specs.Computed.Findings.{own_at, has_code, add_code, once_onto, once, codes_at, notes_of_code}
 use Rattle.pc_rules.specs.Computed.Findings.{own_flow, flow_then, flows_behind, flows_at, whole}
 use Rattle.pc_rules.specs.Computed.Findings.{found_in_parts, found_in_items, found_in_arguments, found_in_entries}
-use Rattle.pc_rules.specs.Computed.Findings.{found_in_keywords, notes_under, callee_notes_under, type_noted, label_at}
-use Rattle.pc_rules.specs.Computed.Findings.{called, shows}
+use Rattle.pc_rules.specs.Computed.Findings.{found_in_keywords, notes_under, callee_notes_under, note_of_type, label_at}
+use Rattle.pc_rules.specs.Computed.Findings.{callee_notes, shows}
 use Rattle.pc_rules.specs.Computed.Standing.{Standing, label_in, finds_in, items_in, keywords_in, arguments_find}
 use Rattle.pc_rules.specs.Computed.Standing.{keywords_find}
 use Rattle.pc_rules.specs.Laws.WellFormed.{ContextWellFormed, FlowsWellFormed, LabelsWellFormed, ItemsWellFormed}
@@ -220,14 +220,14 @@ module _ (bases : Bases) where
   formed_then xs ys h k = all_append (IsFormed bases) xs ys h k
 
   formed_type : (keeps shown : Test) (p : Place) (t : Tree)
-      → AllByRecursion (IsFormed bases) (type_noted keeps shown p t)
+      → AllByRecursion (IsFormed bases) (note_of_type keeps shown p t)
   formed_type false shown p t = tt
   formed_type true shown p t = (tt, tt)
 
   formed_label : (keeps shown : Test) (p : Place) (m : Label)
       → AllByRecursion (IsFormed bases) (label_at keeps shown p m)
   formed_label keeps shown p m =
-      formed_then (type_noted keeps shown p m.type) (codes_at p m.codes) (formed_type keeps shown p m.type)
+      formed_then (note_of_type keeps shown p m.type) (codes_at p m.codes) (formed_type keeps shown p m.type)
       (formed_codes p m.codes)
 
   formed_whole : (keeps : Test) (e : Expr) (m : Labels e) (parts : List Note) → AllByRecursion (IsFormed bases) parts
@@ -236,7 +236,7 @@ module _ (bases : Bases) where
       (formed_label keeps true (place_of e) (whole_label e m))
 
   formed_called : (keeps : Test) (e : Expr) (m : Labels e) (parts : List Note) → AllByRecursion (IsFormed bases) parts
-      → AllByRecursion (IsFormed bases) (called keeps e m parts)
+      → AllByRecursion (IsFormed bases) (callee_notes keeps e m parts)
   formed_called keeps e m parts h = formed_then parts (label_at keeps (shows e) (place_of e) (whole_label e m)) h
       (formed_label keeps (shows e) (place_of e) (whole_label e m))
 
@@ -373,12 +373,12 @@ module _ (ctx : Context) (declared : List Tree) (keeps : Test) where
   tested_then : (xs ys : List Note) → AllTested xs → AllTested ys → AllTested (xs ++ ys)
   tested_then xs ys h k = all_append (IsTested ctx.bases) xs ys h k
 
-  tested_type : (shown : Test) (p : Place) (t : Tree) → (b : Test) → AllTested (type_noted b shown p t)
+  tested_type : (shown : Test) (p : Place) (t : Tree) → (b : Test) → AllTested (note_of_type b shown p t)
   tested_type shown p t false = tt
   tested_type shown p t true = (tt, tt)
 
   tested_label : (shown : Test) (p : Place) (m : Label) → LabelPlain m → AllTested (label_at keeps shown p m)
-  tested_label shown p m h = tested_then (type_noted keeps shown p m.type) (codes_at p m.codes)
+  tested_label shown p m h = tested_then (note_of_type keeps shown p m.type) (codes_at p m.codes)
       (tested_type shown p m.type keeps) (tested_codes ctx.bases p m.codes h)
 
   tested_callee : (env : Env) (e : Expr) (here : Label) → LabelPlain here

@@ -22,7 +22,7 @@ use Rattle.pc_types.specs.Tree.{Tree}
 use Rattle.pc_types.specs.Below.{Bases}
 use Rattle.pc_types.specs.Shape.{nodes, node_limit}
 use Rattle.pc_types.specs.WellFormed.{IsWellFormed}
-use Rattle.pc_annotations.specs.Annotations.{named_type, applied_type, empty_type, union_type, reading, readings, read_ann}
+use Rattle.pc_annotations.specs.Annotations.{named_type, applied_type, empty_type, union_type, reading, read_anns, read_ann}
 use Rattle.pc_annotations.specs.Annotations.{read_option}
 use Rattle.pc_annotations.proofs.Earlier.{smaller}
 use Rattle.pc_annotations.proofs.Readings.{read_ann_well_formed, read_option_well_formed}
@@ -78,11 +78,11 @@ module _ (m : Module) (bases : Bases) where
     part_plain (named n) = without_plain (named_type m.imports_any (resolve_in_module m n.text)) n.place E09 refl
     part_plain (none_type p) = tt
     part_plain (applied p head arguments) = inside_plain (applied_type (resolve_in_module m head.text)
-        (readings m bases arguments)) p (parts_findings m bases arguments) (parts_plain arguments)
+        (read_anns m bases arguments)) p (parts_findings m bases arguments) (parts_plain arguments)
     part_plain (applied_empty p head) = without_plain (empty_type (resolve_in_module m head.text)) p E09 refl
     part_plain (tree.union p parts) = plain_then (parts_findings m bases parts)
-        (without_type (union_type bases (readings m bases parts)) p E10) (parts_plain parts)
-        (without_plain (union_type bases (readings m bases parts)) p E10 refl)
+        (without_type (union_type bases (read_anns m bases parts)) p E10) (parts_plain parts)
+        (without_plain (union_type bases (read_anns m bases parts)) p E10 refl)
 
     parts_plain : (a : Anns) → PlainFindings (parts_findings m bases a)
     parts_plain no_anns = tt

@@ -47,9 +47,9 @@ use Rattle.pc_module_rules.proofs.RightNotes.{label_well_formed, right_in, right
 use Rattle.pc_module_rules.proofs.RightSignatures.{right_annotation}
 use Rattle.pc_module_rules.specs.Modules.{entry_parameters}
 use Rattle.pc_module_rules.specs.Statements.{only_code, binds_number}
-use Rattle.pc_module_rules.specs.Computed.Statements.{Table, type_table, bound_type, with_declared, known_declared}
+use Rattle.pc_module_rules.specs.Computed.Statements.{DeclaredTypes, type_table, bound_type, with_declared, known_declared}
 use Rattle.pc_module_rules.specs.Computed.Statements.{BodyContext, Walk, BindingResult, BranchesResult, join_onto_way}
-use Rattle.pc_module_rules.specs.Computed.Statements.{with_way, at, narrowed_at, unreached_name, unreached_names}
+use Rattle.pc_module_rules.specs.Computed.Statements.{with_way, standing_here, narrowed_at, unreached_name, unreached_names}
 use Rattle.pc_module_rules.specs.Computed.Statements.{bind_label, bind_value, declared_alone, annotation_finds}
 use Rattle.pc_module_rules.specs.Computed.Statements.{bound_name, bind_annotated, attribute_stores, index_stores}
 use Rattle.pc_module_rules.specs.Computed.Statements.{stored_finds, store_finds, assign_target, values_item}
@@ -103,7 +103,7 @@ noted_right bases true valued r p b h = record {
       (note_holds (AreRight bases) tt (λ q d t. (record { tested = tt; formed = tt }, tt)) valued b.table b.env r p);
 }
 
-settled_well_formed : (bases : Bases) (bound : Option Tree) (table : Table) (x : ℕ) (t : Tree) → IsWellFormed bases t
+settled_well_formed : (bases : Bases) (bound : Option Tree) (table : DeclaredTypes) (x : ℕ) (t : Tree) → IsWellFormed bases t
     → IsWellFormedEnv bases table → IsWellFormedEnv bases (with_declared bound table x t)
 settled_well_formed bases (Some d) table x t h k = k
 settled_well_formed bases None table x t h k = assign_well_formed bases table x t h k
@@ -128,30 +128,30 @@ module _ (context : BodyContext) (ck : ContextWellFormed context.context)
   abbrev Formed : Env → Type 0
   Formed env = IsWellFormedEnv ctx.bases env
 
-  stands : (table : Table) (env : Env) → Formed table → Formed env → StandsWell (at context table env)
+  stands : (table : DeclaredTypes) (env : Env) → Formed table → Formed env → StandsWell (standing_here context table env)
   stands table env kt ke = record { context = ck; declared = types_well_formed ctx.bases table kt; env = ke }
 
-  narrowed_well_formed : (table : Table) (holds : Test) (c : Expr) (env : Env) → Formed table → Formed env
+  narrowed_well_formed : (table : DeclaredTypes) (holds : Test) (c : Expr) (env : Env) → Formed table → Formed env
       → Formed (narrowed_at context table holds c env)
   narrowed_well_formed table holds c env kt ke = conditions_well_formed ctx.bases (type_table table) ctx.resolve holds c
       env ck.smaller (types_well_formed ctx.bases table kt) ke
 
-  head_well_formed : (table : Table) (names : List Name) (env : Env) → Formed table → Formed env
+  head_well_formed : (table : DeclaredTypes) (names : List Name) (env : Env) → Formed table → Formed env
       → Formed (head_at context table names env)
   head_well_formed table names env kt ke = heads_well_formed ctx.bases (binds_number ctx.resolve names)
       (type_table table) env (types_well_formed ctx.bases table kt) ke
 
-  joined_well_formed : (table : Table) (a b : Env) → Formed table → Formed a → Formed b
+  joined_well_formed : (table : DeclaredTypes) (a b : Env) → Formed table → Formed a → Formed b
       → Formed (join_env ctx.bases (type_table table) a b)
   joined_well_formed table a b kt ka kb = joins_well_formed ctx.bases (type_table table) a b ck.smaller
       (types_well_formed ctx.bases table kt) ka kb
 
-  way_onto : (table : Table) (way : Option Env) (env : Env) → Formed table → OutWellFormed ctx.bases way → Formed env
+  way_onto : (table : DeclaredTypes) (way : Option Env) (env : Env) → Formed table → OutWellFormed ctx.bases way → Formed env
       → OutWellFormed ctx.bases (join_onto_way ctx.bases table way env)
   way_onto table None env kt kw ke = tt
   way_onto table (Some way) env kt kw ke = joined_well_formed table way env kt kw ke
 
-  one_way : (table : Table) (ways out : Option Env) → Formed table → OutWellFormed ctx.bases ways
+  one_way : (table : DeclaredTypes) (ways out : Option Env) → Formed table → OutWellFormed ctx.bases ways
       → OutWellFormed ctx.bases out → OutWellFormed ctx.bases (with_way ctx.bases table ways out)
   one_way table ways None kt kw ko = kw
   one_way table None (Some env) kt kw ko = ko
@@ -159,7 +159,7 @@ module _ (context : BodyContext) (ck : ContextWellFormed context.context)
 
   -- ---- names that no run binds
 
-  unreached_one : (table : Table) (r : NameMeaning) → Formed table → Formed (unreached_name context table r)
+  unreached_one : (table : DeclaredTypes) (r : NameMeaning) → Formed table → Formed (unreached_name context table r)
   unreached_one table (res.Local x) kt = settled_well_formed ctx.bases (bound_type table x) table x Any
       (any_well_formed ctx.bases) kt
   unreached_one table (res.Const i) kt = kt
@@ -168,17 +168,17 @@ module _ (context : BodyContext) (ck : ContextWellFormed context.context)
   unreached_one table (res.Builtin b) kt = kt
   unreached_one table res.None kt = kt
 
-  unreached_all : (table : Table) (ns : List Name) → Formed table → Formed (unreached_names context table ns)
+  unreached_all : (table : DeclaredTypes) (ns : List Name) → Formed table → Formed (unreached_names context table ns)
   unreached_all table [] kt = kt
   unreached_all table (n ∷ ns) kt = unreached_all (unreached_name context table (ctx.resolve n.text)) ns
       (unreached_one table (ctx.resolve n.text) kt)
 
   -- ---- binding a name
 
-  bound_well_formed : (table : Table) (x : ℕ) → Formed table → IsWellFormedIfAny ctx.bases (bound_type table x)
+  bound_well_formed : (table : DeclaredTypes) (x : ℕ) → Formed table → IsWellFormedIfAny ctx.bases (bound_type table x)
   bound_well_formed table x kt = current_well_formed ctx.bases table x kt
 
-  label_right : (table : Table) (env : Env) (x : ℕ) (want : Option Tree) (p : Place) (label : Label) (found : List Note)
+  label_right : (table : DeclaredTypes) (env : Env) (x : ℕ) (want : Option Tree) (p : Place) (label : Label) (found : List Note)
       → Formed table → Formed env → IsWellFormedIfAny ctx.bases want → IsWellFormed ctx.bases label.type → Right found
       → BoundRight ctx.bases (bind_label context table env x want p label found)
   label_right table env x want p label found kt ke kw km kf =
@@ -192,27 +192,27 @@ module _ (context : BodyContext) (ck : ContextWellFormed context.context)
       }
 
   -- a value whose name binds no local
-  value_alone : (table : Table) (env : Env) (e : Expr) (found : List Note) → Formed table → Formed env → Right found
+  value_alone : (table : DeclaredTypes) (env : Env) (e : Expr) (found : List Note) → Formed table → Formed env → Right found
       → BoundRight ctx.bases (record {
         table = table;
         env = env;
-        found = found ++ finds_in (at context table env) None e;
+        found = found ++ finds_in (standing_here context table env) None e;
       })
   value_alone table env e found kt ke kf = record {
     table = kt;
     env = ke;
     found =
-        right_then found (finds_in (at context table env) None e) kf
-        (right_in (at context table env) (stands table env kt ke) None tt e);
+        right_then found (finds_in (standing_here context table env) None e) kf
+        (right_in (standing_here context table env) (stands table env kt ke) None tt e);
   }
 
-  value_right : (table : Table) (env : Env) (r : NameMeaning) (annotation : Option Tree) (e : Expr) (found : List Note)
+  value_right : (table : DeclaredTypes) (env : Env) (r : NameMeaning) (annotation : Option Tree) (e : Expr) (found : List Note)
       → Formed table → Formed env → IsWellFormedIfAny ctx.bases annotation → Right found
       → BoundRight ctx.bases (bind_value context table env r annotation e found)
   value_right table env (res.Local x) annotation e found kt ke ka kf =
       let want = known_declared (bound_type table x) annotation in
       let kw = known_well_formed ctx.bases (bound_type table x) annotation (bound_well_formed table x kt) ka in
-      let here = at context table env in
+      let here = standing_here context table env in
       let ks = stands table env kt ke in
       label_right table env x want (place_of e) (label_in here want e) (found ++ finds_in here want e) kt ke kw
       (label_well_formed here ks want kw e) (right_then found (finds_in here want e) kf
@@ -223,7 +223,7 @@ module _ (context : BodyContext) (ck : ContextWellFormed context.context)
   value_right table env (res.Builtin b) annotation e found kt ke ka kf = value_alone table env e found kt ke kf
   value_right table env res.None annotation e found kt ke ka kf = value_alone table env e found kt ke kf
 
-  alone_well_formed : (table : Table) (r : NameMeaning) (t : Tree) → Formed table → IsWellFormed ctx.bases t
+  alone_well_formed : (table : DeclaredTypes) (r : NameMeaning) (t : Tree) → Formed table → IsWellFormed ctx.bases t
       → Formed (declared_alone context table r t)
   alone_well_formed table (res.Local x) t kt h = settled_well_formed ctx.bases (bound_type table x) table x t h kt
   alone_well_formed table (res.Const i) t kt h = kt
@@ -236,7 +236,7 @@ module _ (context : BodyContext) (ck : ContextWellFormed context.context)
   annotation_right (Some d) n a = (record { tested = refl; formed = tt }, tt)
   annotation_right None n a = right_annotation context.whole ctx.bases a
 
-  read_right : (table : Table) (env : Env) (r : NameMeaning) (n : Name) (a : Ann) (e : Option Expr) (found : List Note)
+  read_right : (table : DeclaredTypes) (env : Env) (r : NameMeaning) (n : Name) (a : Ann) (e : Option Expr) (found : List Note)
       → Formed table → Formed env → Right found
       → BoundRight ctx.bases (annotated_binding context table env r n a e found)
   read_right table env r n a None found kt ke kf = record {
@@ -252,7 +252,7 @@ module _ (context : BodyContext) (ck : ContextWellFormed context.context)
       (read_ann_well_formed context.whole ctx.bases ck.smaller a)
       (right_then found xs kf (annotation_right (bound_name context table r) n a))
 
-  annotated_right : (table : Table) (env : Env) (n : Name) (a : Ann) (e : Option Expr) (found : List Note)
+  annotated_right : (table : DeclaredTypes) (env : Env) (n : Name) (a : Ann) (e : Option Expr) (found : List Note)
       → Formed table → Formed env → Right found → BoundRight ctx.bases (bind_annotated context table env n a e found)
   annotated_right table env n a e found kt ke kf =
       let r = ctx.resolve n.text in
@@ -261,11 +261,11 @@ module _ (context : BodyContext) (ck : ContextWellFormed context.context)
 
   -- ---- stores
 
-  stored_right : (table : Table) (env : Env) → Formed table → Formed env → (offers : List StoreOffer)
+  stored_right : (table : DeclaredTypes) (env : Env) → Formed table → Formed env → (offers : List StoreOffer)
       → ArePlain (store_codes offers) → AreWellFormed ctx.bases (stored_types offers) → (p : Place) (e : Expr)
-      → Right (stored_finds context (at context table env) offers p e)
+      → Right (stored_finds context (standing_here context table env) offers p e)
   stored_right table env kt ke offers h k p e =
-      let here = at context table env in
+      let here = standing_here context table env in
       let ks = stands table env kt ke in
       let want = only_type offers (stored_types offers) in
       let kw = only_well_formed ctx.bases offers (stored_types offers) k in
@@ -276,11 +276,11 @@ module _ (context : BodyContext) (ck : ContextWellFormed context.context)
       (right_flows ctx.bases ck.smaller (place_of e) (label_in here want e) (stored_types offers)
       (label_well_formed here ks want kw e) k))
 
-  store_right : (table : Table) (env : Env) → Formed table → Formed env → (t : Target) (e : Expr)
-      → Right (store_finds context (at context table env) t e)
+  store_right : (table : DeclaredTypes) (env : Env) → Formed table → Formed env → (t : Target) (e : Expr)
+      → Right (store_finds context (standing_here context table env) t e)
   store_right table env kt ke (to_name n) e = tt
   store_right table env kt ke (to_attribute p o field) e =
-      let here = at context table env in
+      let here = standing_here context table env in
       let ks = stands table env kt ke in
       let t = (label_in here None o).type in
       let offers = attribute_stores context field.text t in
@@ -288,7 +288,7 @@ module _ (context : BodyContext) (ck : ContextWellFormed context.context)
       (stored_right table env kt ke offers (attribute_stores_plain ctx.classes field.text (members t))
       (fields_stored ctx.bases ctx.classes ck.classes field.text t (label_well_formed here ks None tt o)) p e)
   store_right table env kt ke (to_index p o i) e =
-      let here = at context table env in
+      let here = standing_here context table env in
       let ks = stands table env kt ke in
       let t = (label_in here None o).type in
       let kt' = label_well_formed here ks None tt o in
@@ -302,21 +302,21 @@ module _ (context : BodyContext) (ck : ContextWellFormed context.context)
       (keys_stored ctx.bases t kt'))
       (stored_right table env kt ke offers (index_stores_plain (members t)) (items_stored ctx.bases t kt') p e)))
 
-  target_stored : (table : Table) (env : Env) (t : Target) (e : Expr) (found : List Note) → Formed table → Formed env
+  target_stored : (table : DeclaredTypes) (env : Env) (t : Target) (e : Expr) (found : List Note) → Formed table → Formed env
       → Right found → BoundRight ctx.bases (record {
         table = table;
         env = env;
         found = found ++ store_finds context
-            (at context table env) t e;
+            (standing_here context table env) t e;
       })
   target_stored table env t e found kt ke kf = record {
     table = kt;
     env = ke;
     found =
-        right_then found (store_finds context (at context table env) t e) kf (store_right table env kt ke t e);
+        right_then found (store_finds context (standing_here context table env) t e) kf (store_right table env kt ke t e);
   }
 
-  assigned_right : (table : Table) (env : Env) (t : Target) (e : Expr) (found : List Note) → Formed table → Formed env
+  assigned_right : (table : DeclaredTypes) (env : Env) (t : Target) (e : Expr) (found : List Note) → Formed table → Formed env
       → Right found → BoundRight ctx.bases (assign_target context table env t e found)
   assigned_right table env (to_name n) e found kt ke kf =
       let r = ctx.resolve n.text in
@@ -341,9 +341,9 @@ module _ (context : BodyContext) (ck : ContextWellFormed context.context)
     codes = range_item_plain (arguments_given args kws);
   }
 
-  module _ (table : Table) (env : Env) (kt : Formed table) (ke : Formed env) where
+  module _ (table : DeclaredTypes) (env : Env) (kt : Formed table) (ke : Formed env) where
     abbrev here : Standing
-    here = at context table env
+    here = standing_here context table env
 
     turn_right : (e : Expr) → ItemRight (values_item context here e)
     turn_right e = record {
@@ -382,11 +382,11 @@ module _ (context : BodyContext) (ck : ContextWellFormed context.context)
         (right_flows ctx.bases ck.smaller (place_of e) (label_in here want e) (context.returned ∷ [])
         (label_well_formed here (stands table env kt ke) want rk e) (rk, tt))
 
-  item_alone : (table : Table) (head : Env) (found : List Note) → Formed table → Formed head → Right found
+  item_alone : (table : DeclaredTypes) (head : Env) (found : List Note) → Formed table → Formed head → Right found
       → BoundRight ctx.bases (record { table = table; env = head; found = found })
   item_alone table head found kt kh kf = record { table = kt; env = kh; found = kf }
 
-  target_right : (table : Table) (head : Env) (r : NameMeaning) (p : Place) (t : Tree) (found : List Note)
+  target_right : (table : DeclaredTypes) (head : Env) (r : NameMeaning) (p : Place) (t : Tree) (found : List Note)
       → Formed table
       → Formed head → IsWellFormed ctx.bases t → Right found → BoundRight ctx.bases
       (bind_item context table head r p t found)
@@ -405,7 +405,7 @@ module _ (context : BodyContext) (ck : ContextWellFormed context.context)
   behind_right broken b kb h = record { table = h.table; env = h.env; broken = kb; found = h.found }
 
   mutual
-    step_right : (table : Table) (env broken : Option Env) (found : List Note) → Formed table
+    step_right : (table : DeclaredTypes) (env broken : Option Env) (found : List Note) → Formed table
         → OutWellFormed ctx.bases env → OutWellFormed ctx.bases broken → Right found → (s : Stmt)
         → WalkRight ctx.bases (step context table env broken found s)
     step_right table None broken found kt ke kb kf s = record {
@@ -427,16 +427,16 @@ module _ (context : BodyContext) (ck : ContextWellFormed context.context)
           env = tt;
           broken = kb;
           found = right_then found
-              (return_finds context (at context table env) p e) kf (return_right table env kt ke p e);
+              (return_finds context (standing_here context table env) p e) kf (return_right table env kt ke p e);
         }
     step_right table (Some env) broken found kt ke kb kf (asserts p c e) =
-        let here = at context table env in
+        let here = standing_here context table env in
         let out = narrowed_at context table false c env in
         record {
           table = kt;
           env = narrowed_well_formed table true c env kt ke;
           broken = kb;
-          found = right_then (found ++ finds_in here None c) (option_finds context (at context table out) None e)
+          found = right_then (found ++ finds_in here None c) (option_finds context (standing_here context table out) None e)
               (right_then found (finds_in here None c) kf (right_in here (stands table env kt ke) None tt c))
               (option_right table out kt (narrowed_well_formed table false c env kt ke) e);
         }
@@ -450,13 +450,13 @@ module _ (context : BodyContext) (ck : ContextWellFormed context.context)
           table = kt;
           env = ke;
           broken = kb;
-          found = right_then found (finds_in (at context table env) None e) kf
-              (right_in (at context table env) (stands table env kt ke) None tt e);
+          found = right_then found (finds_in (standing_here context table env) None e) kf
+              (right_in (standing_here context table env) (stands table env kt ke) None tt e);
         }
     step_right table (Some env) broken found kt ke kb kf (while_loop p c b) =
         let head = head_at context table (bound_by b) env in
         let kh = head_well_formed table (bound_by b) env kt ke in
-        let xs = finds_in (at context table head) None c in
+        let xs = finds_in (standing_here context table head) None c in
         let start : Walk = record {
           table = table;
           env = Some (narrowed_at context table true c head);
@@ -468,11 +468,11 @@ module _ (context : BodyContext) (ck : ContextWellFormed context.context)
           table = kt;
           env = narrowed_well_formed table true c head kt kh;
           broken = narrowed_well_formed table false c head kt kh;
-          found = right_then found xs kf (right_in (at context table head) (stands table head kt kh) None tt c);
+          found = right_then found xs kf (right_in (standing_here context table head) (stands table head kt kh) None tt c);
         }) b in
         record { table = body.table; env = body.broken; broken = kb; found = body.found }
     step_right table (Some env) broken found kt ke kb kf (for_loop p n e b) =
-        let here = at context table env in
+        let here = standing_here context table env in
         let head = head_at context table (n ∷ bound_by b) env in
         let kh = head_well_formed table (n ∷ bound_by b) env kt ke in
         let item = item_label_of context here e in
@@ -530,7 +530,7 @@ module _ (context : BodyContext) (ck : ContextWellFormed context.context)
         → ForkRight ctx.bases (walk_branches context w bs)
     branches_right w h no_branches = h
     branches_right w h (more_branches c b rest) =
-        let xs = finds_in (at context w.table w.last) None c in
+        let xs = finds_in (standing_here context w.table w.last) None c in
         let start : Walk = record {
           table = w.table;
           env = Some (narrowed_at context w.table true c w.last);
@@ -543,7 +543,7 @@ module _ (context : BodyContext) (ck : ContextWellFormed context.context)
           table = h.table;
           env = narrowed_well_formed w.table true c w.last h.table h.last;
           broken = h.broken;
-          found = right_then w.found xs h.found (right_in (at context w.table w.last)
+          found = right_then w.found xs h.found (right_in (standing_here context w.table w.last)
               (stands w.table w.last h.table h.last) None tt c);
         }) b in
         let next : BranchesResult = record {
@@ -565,10 +565,10 @@ module _ (context : BodyContext) (ck : ContextWellFormed context.context)
 -- ---- functions
 
 -- the table and the environment at the entry of a function have well-formed types
-abbrev EntryFormed : Bases → (Table × Env) → Type 0
+abbrev EntryFormed : Bases → (DeclaredTypes × Env) → Type 0
 EntryFormed bases r = IsWellFormedEnv bases r.0 × IsWellFormedEnv bases r.1
 
-local_entered : (bases : Bases) (bound : Option Tree) (table : Table) (env : Env) (x : ℕ) (t : Tree)
+local_entered : (bases : Bases) (bound : Option Tree) (table : DeclaredTypes) (env : Env) (x : ℕ) (t : Tree)
     → IsWellFormed bases t → IsWellFormedEnv bases table → IsWellFormedEnv bases env
     → EntryFormed bases (enter_local bound table env x t)
 local_entered bases (Some d) table env x t h kt ke = (kt, ke)
@@ -578,7 +578,7 @@ local_entered bases None table env x t h kt ke = (
       x t h ke,
 )
 
-name_entered : (bases : Bases) (table : Table) (env : Env) (r : NameMeaning) (t : Tree) → IsWellFormed bases t
+name_entered : (bases : Bases) (table : DeclaredTypes) (env : Env) (r : NameMeaning) (t : Tree) → IsWellFormed bases t
     → IsWellFormedEnv bases table → IsWellFormedEnv bases env → EntryFormed bases (enter_name table env r t)
 name_entered bases table env (res.Local x) t h kt ke = local_entered bases (bound_type table x) table env x t h kt ke
 name_entered bases table env (res.Const i) t h kt ke = (kt, ke)
@@ -587,7 +587,7 @@ name_entered bases table env (res.Class i) t h kt ke = (kt, ke)
 name_entered bases table env (res.Builtin b) t h kt ke = (kt, ke)
 name_entered bases table env res.None t h kt ke = (kt, ke)
 
-all_entered : (bases : Bases) (resolve : List ℕ → NameMeaning) (table : Table) (env : Env) (ps : List TypedParameter)
+all_entered : (bases : Bases) (resolve : List ℕ → NameMeaning) (table : DeclaredTypes) (env : Env) (ps : List TypedParameter)
     → ParametersWellFormed bases ps → IsWellFormedEnv bases table → IsWellFormedEnv bases env
     → EntryFormed bases (enter_parameters resolve table env ps)
 all_entered bases resolve table env [] h kt ke = (kt, ke)

@@ -26,7 +26,7 @@ use Rattle.pc_scope.specs.Expressions.{exprs_in_branches}
 use Rattle.pc_types.specs.Tree.{Tree, Any, Int, NoneType}
 use Rattle.pc_types.specs.Below.{Bases}
 use Rattle.pc_types.specs.Shape.{members}
-use Rattle.pc_annotations.specs.Annotations.{named_type, applied_type, empty_type, union_type, readings, PartFinds, PartsFind}
+use Rattle.pc_annotations.specs.Annotations.{named_type, applied_type, empty_type, union_type, read_anns, PartFinds, PartsFind}
 use Rattle.pc_annotations.specs.Annotations.{AnnFinds}
 use Rattle.pc_flow.specs.Environment.{Env, declared_type}
 use Rattle.pc_flow.specs.Narrowing.{narrow}
@@ -81,7 +81,7 @@ module _ (m : Module) (bases : Bases) (f : Finding) (s : is_of_scopes f.code ≡
     no_part (named n) h = at_none (named_type m.imports_any (resolve_in_module m n.text)) n.place E09 refl h
     no_part (none_type p) h = h
     no_part (applied p head arguments) h = go (applied_type (resolve_in_module m head.text)
-        (readings m bases arguments)) h (no_parts arguments)
+        (read_anns m bases arguments)) h (no_parts arguments)
       where
         go : (o : Option Tree) → MatchOption o (f ≡ finding p E09) (λ t. PartsFind m bases arguments f)
             → (PartsFind m bases arguments f → ⊥) → ⊥
@@ -89,7 +89,7 @@ module _ (m : Module) (bases : Bases) (f : Finding) (s : is_of_scopes f.code ≡
         go (Some t) h none = none h
     no_part (applied_empty p head) h = at_none (empty_type (resolve_in_module m head.text)) p E09 refl h
     no_part (tree.union p parts) h = elim h [
-      | inl a ↦ at_none (union_type bases (readings m bases parts)) p E10 refl a
+      | inl a ↦ at_none (union_type bases (read_anns m bases parts)) p E10 refl a
       | inr b ↦ no_parts parts b
     ]
 

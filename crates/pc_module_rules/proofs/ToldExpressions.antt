@@ -35,7 +35,7 @@ use Rattle.pc_module_rules.specs.StatementLabels.{OptionLabels, TargetLabels}
 use Rattle.pc_module_rules.specs.Statements.{RangeOrValues, LawfulRange, LawfulValues, LawfulIterable, attribute_offers}
 use Rattle.pc_module_rules.specs.Statements.{index_offers, LawfulStore, LawfulReturn, LawfulOption}
 use Rattle.pc_module_rules.specs.Laws.Labellings.{Surroundings}
-use Rattle.pc_module_rules.specs.Computed.Statements.{Table, type_table, BodyContext, attribute_stores, index_stores}
+use Rattle.pc_module_rules.specs.Computed.Statements.{DeclaredTypes, type_table, BodyContext, attribute_stores, index_stores}
 use Rattle.pc_module_rules.specs.Computed.Statements.{stored_finds, store_finds, iterable_finds, option_finds}
 use Rattle.pc_module_rules.specs.Computed.Statements.{return_finds}
 use Rattle.pc_module_rules.specs.Laws.Walks.{EnvFits, body_context_in}
@@ -48,7 +48,7 @@ use Rattle.pc_module_rules.proofs.FirstFlows.{Tells, tell_none, tell_then, tell_
 use Rattle.pc_module_rules.proofs.ToldFlows.{tell_codes, tell_flows, tell_expression}
 
 module _ (code : Code) (own : is_of_scopes code ≡ false) (setting : Surroundings) (returned : Tree)
-    (kr : IsWellFormed setting.context.bases returned) (declared : List Tree) (table : Table)
+    (kr : IsWellFormed setting.context.bases returned) (declared : List Tree) (table : DeclaredTypes)
     (kt : IsWellFormedEnv setting.context.bases table) (env : Env)
     (h : EnvFits setting declared table env) where
   open setting use {whole as m, context as ctx, context_well_formed as ck}

@@ -49,7 +49,7 @@ use Rattle.pc_rules.proofs.ComputedLawful.{labels_are_lawful}
 use Rattle.pc_rules.proofs.Contexts.{bodies_well_formed, initializers_well_formed}
 use Rattle.pc_rules.proofs.One.{into_one, one_labelling}
 use Rattle.pc_module_rules.specs.Modules.{entry_parameters, names_entered, entry_env, FunctionLabels, LawfulFunction}
-use Rattle.pc_module_rules.specs.Modules.{MembersLabels, LawfulMembers, ItemLabels, ItemsLabels, constant_types}
+use Rattle.pc_module_rules.specs.Modules.{MembersLabels, LawfulMembers, ItemLabels, ModuleItemsLabels, constant_types}
 use Rattle.pc_module_rules.specs.Modules.{BeforeItem, nothing_before, before_next, LawfulItem, LawfulModuleItems}
 use Rattle.pc_module_rules.specs.Modules.{Labelling, IsLawful}
 use Rattle.pc_module_rules.specs.Laws.Labellings.{Surroundings}
@@ -234,7 +234,7 @@ module _ (code : Code) (own : is_of_scopes code ≡ false) (m : Module) where
   -- ---- items
 
   -- the signatures of functions
-  functions_tell : (all : List Tree) (b : BeforeItem) (items : List Item) (labels : ItemsLabels items)
+  functions_tell : (all : List Tree) (b : BeforeItem) (items : List Item) (labels : ModuleItemsLabels items)
       → LawfulModuleItems m all b items labels → Tells code (functions_findings m items)
       (flows_in_each (coded_in_function code) items labels)
   functions_tell all b [] labels l = tell_none
@@ -261,7 +261,7 @@ module _ (code : Code) (own : is_of_scopes code ≡ false) (m : Module) where
       (sym same) (members_tell all (base_class m b.classes c) b.classes 0 [] c.members labels l)
 
   items_tell : (all : List Tree) (b : BeforeItem) → AreWellFormed bases b.constants → (items : List Item)
-      → ClassesFrom m b.classes (classes_in items) → (labels : ItemsLabels items)
+      → ClassesFrom m b.classes (classes_in items) → (labels : ModuleItemsLabels items)
       → LawfulModuleItems m all b items labels → Tells code (items_findings m false (reached_at b) items)
       (flows_in_each (coded_in_item code) items labels)
   items_tell all b kb [] from labels l = tell_none
@@ -345,7 +345,7 @@ module _ (code : Code) (own : is_of_scopes code ≡ false) (m : Module) where
         (function_tells (owners.Method c number) f labels.method l.method found)
         (methods_tell base c (suc number) (f.name.text ∷ before) rest labels.rest l.others one)
 
-    bodies_tell : (b : BeforeItem) (items : List Item) (labels : ItemsLabels items)
+    bodies_tell : (b : BeforeItem) (items : List Item) (labels : ModuleItemsLabels items)
         → LawfulModuleItems m all b items labels → (found : List Note)
         → Grows code found (bodies_find false m all b.classes b.functions items found)
         (flows_in_each (coded_in_body code) items labels)

@@ -40,8 +40,8 @@ use Rattle.pc_module_rules.specs.Statements.{NamesBound, is_first, binds_number,
 use Rattle.pc_module_rules.specs.Statements.{LawfulBinding, LawfulTarget, annotation_at, LawfulAnnotated, LawfulStmt}
 use Rattle.pc_module_rules.specs.Statements.{LawfulSuite, LawfulBranches}
 use Rattle.pc_module_rules.specs.Laws.Labellings.{Surroundings}
-use Rattle.pc_module_rules.specs.Computed.Statements.{Table, bound_type, known_declared, BodyContext, Walk}
-use Rattle.pc_module_rules.specs.Computed.Statements.{BranchesResult, at, with_way, narrowed_at, head_at}
+use Rattle.pc_module_rules.specs.Computed.Statements.{DeclaredTypes, bound_type, known_declared, BodyContext, Walk}
+use Rattle.pc_module_rules.specs.Computed.Statements.{BranchesResult, standing_here, with_way, narrowed_at, head_at}
 use Rattle.pc_module_rules.specs.Computed.Statements.{iterable_finds, bind_label, bind_value, bind_annotated}
 use Rattle.pc_module_rules.specs.Computed.Statements.{annotation_finds, bound_name, bind_item, store_finds}
 use Rattle.pc_module_rules.specs.Computed.Statements.{assign_target, option_finds, return_finds, behind_loop}
@@ -67,12 +67,12 @@ module _ (code : Code) (own : is_of_scopes code ≡ false) (setting : Surroundin
   abbrev context : BodyContext
   context = body_context_in setting returned
 
-  abbrev TableHere : NamesBound → Table → Type 0
+  abbrev TableHere : NamesBound → DeclaredTypes → Type 0
   TableHere seen table = TableFits setting declared seen table
 
   -- ---- a local bound
 
-  module _ (seen : NamesBound) (n : Name) (table : Table) (h : TableFits setting declared seen table) where
+  module _ (seen : NamesBound) (n : Name) (table : DeclaredTypes) (h : TableFits setting declared seen table) where
     -- the flow into a local that is bound to what has a label
     label_tells : (env : Env) (x : ℕ) (want : Option Tree) (p : Place) (label : Label) (flows : FlowLabels)
         (found : List Note)
@@ -108,7 +108,7 @@ module _ (code : Code) (own : is_of_scopes code ≡ false) (setting : Surroundin
         let v = told setting declared table h.well_formed env f want kw e labels lw in
         let is : unwrap_or want (type_of e labels) ≡ declared_type declared x = ap (λ y. unwrap_or y (type_of e labels))
         (sym w) ∙ type_is m ctx declared x o b bound unbound b a (type_of e labels) l.at_first in
-        let finds = finds_in (at context table env) want e in
+        let finds = finds_in (standing_here context table env) want e in
         let ds = coded_in code e labels in
         let es = coded_at code (place_of e) flows in
         subst (λ y. Grows code found (bind_label context table env x want (place_of e) y (found ++ finds)).found
@@ -123,14 +123,14 @@ module _ (code : Code) (own : is_of_scopes code ≡ false) (setting : Surroundin
     -- a name that means no local binds nothing, and nothing flows into it
     plain_tells : (env : Env) → EnvFits setting declared table env → (e : Expr) (labels : Labels e) (flows : FlowLabels)
         (found : List Note) → Lawful ctx declared env None e labels → flows ≡ []
-        → Grows code found (found ++ finds_in (at context table env) None e)
+        → Grows code found (found ++ finds_in (standing_here context table env) None e)
         (coded_in code e labels ++ coded_at code (place_of e) flows)
     plain_tells env f e labels flows found l none =
-        subst (λ (fs : FlowLabels). Grows code found (found ++ finds_in (at context table env) None e)
+        subst (λ (fs : FlowLabels). Grows code found (found ++ finds_in (standing_here context table env) None e)
         (coded_in code e labels ++ coded_at code (place_of e) fs)) (sym none)
-        (subst (λ ds. Grows code found (found ++ finds_in (at context table env) None e) ds)
+        (subst (λ ds. Grows code found (found ++ finds_in (standing_here context table env) None e) ds)
         (sym (append-nil (coded_in code e labels)))
-        (grow code found (finds_in (at context table env) None e) (coded_in code e labels)
+        (grow code found (finds_in (standing_here context table env) None e) (coded_in code e labels)
         (tell_in code own setting returned kr declared table h.well_formed env f None tt e labels l)))
 
     binding_tells : (r : NameMeaning) → ctx.resolve n.text ≡ r → (env : Env) → EnvFits setting declared table env
@@ -200,7 +200,7 @@ module _ (code : Code) (own : is_of_scopes code ≡ false) (setting : Surroundin
 
   -- ---- assignments
 
-  assignment_tells : (seen : NamesBound) (table : Table) (env : Env) (found : List Note) → TableHere seen table
+  assignment_tells : (seen : NamesBound) (table : DeclaredTypes) (env : Env) (found : List Note) → TableHere seen table
       → EnvFits setting declared table env → (p : Place) (t : Target) (e : Expr) (labels : StmtLabels (assigns p t e))
       (out : Option Env) → LawfulStmt m ctx declared returned seen env (assigns p t e) labels out
       → Grows code found (assign_target context table env t e found).found (coded_in_stmt code (assigns p t e) labels)
@@ -208,13 +208,13 @@ module _ (code : Code) (own : is_of_scopes code ≡ false) (setting : Surroundin
       binding_tells seen n table t (ctx.resolve n.text) refl env f None None (λ q. refl) tt e labels.value labels.flows
       l.after found l.assignment
   assignment_tells seen table env found t f p (to_attribute q o field) e labels out l =
-      grow code found (store_finds context (at context table env) (to_attribute q o field) e)
+      grow code found (store_finds context (standing_here context table env) (to_attribute q o field) e)
       (coded_in_stmt code (assigns p (to_attribute q o field) e) labels)
       (tell_store code own setting returned kr declared table t.well_formed env f (to_attribute q o field) labels.target
       e
       labels.value labels.flows l.assignment.0)
   assignment_tells seen table env found t f p (to_index q o i) e labels out l =
-      grow code found (store_finds context (at context table env) (to_index q o i) e)
+      grow code found (store_finds context (standing_here context table env) (to_index q o i) e)
       (coded_in_stmt code (assigns p (to_index q o i) e) labels)
       (tell_store code own setting returned kr declared table t.well_formed env f (to_index q o i) labels.target e
       labels.value
@@ -267,7 +267,7 @@ module _ (code : Code) (own : is_of_scopes code ≡ false) (setting : Surroundin
     tells : Grows code found w.found flows
 
   mutual
-    pub stmt_tells : (seen : NamesBound) (table : Table) (env : Env) (broken : Option Env) (found : List Note)
+    pub stmt_tells : (seen : NamesBound) (table : DeclaredTypes) (env : Env) (broken : Option Env) (found : List Note)
         → TableHere seen table → EnvFits setting declared table env → OutFits setting declared table broken
         → (s : Stmt) (labels : StmtLabels s) (out : Option Env) → LawfulStmt m ctx declared returned seen env s labels
         out
@@ -276,14 +276,14 @@ module _ (code : Code) (own : is_of_scopes code ≡ false) (setting : Surroundin
     stmt_tells seen table env broken found t f kb (breaks p) labels out l = grow_none code found
     stmt_tells seen table env broken found t f kb (continues p) labels out l = grow_none code found
     stmt_tells seen table env broken found t f kb (returns p e) labels out l =
-        grow code found (return_finds context (at context table env) p e)
+        grow code found (return_finds context (standing_here context table env) p e)
         (coded_in_value code p e labels.value labels.flows)
         (tell_return code own setting returned kr declared table t.well_formed env f p e labels.value labels.flows l.0)
     stmt_tells seen table env broken found t f kb (asserts p c e) labels out l =
         let no = narrow ctx.bases declared ctx.resolve false c env in
         let fn = truth_fits setting declared table t.well_formed false c env f in
-        let xs = finds_in (at context table env) None c in
-        let ys = option_finds context (at context table (narrowed_at context table false c env)) None e in
+        let xs = finds_in (standing_here context table env) None c in
+        let ys = option_finds context (standing_here context table (narrowed_at context table false c env)) None e in
         let ds = coded_in code c labels.condition in
         let es = coded_in_option code e labels.message in
         grow_then code found (found ++ xs) ((found ++ xs) ++ ys) ds es
@@ -291,7 +291,7 @@ module _ (code : Code) (own : is_of_scopes code ≡ false) (setting : Surroundin
         labels.condition
         l.condition))
         (grow code (found ++ xs) ys es
-        (subst (λ x. Tells code (option_finds context (at context table x) None e) es)
+        (subst (λ x. Tells code (option_finds context (standing_here context table x) None e) es)
         (truth_same setting declared table t.well_formed false c env f)
         (tell_option code own setting returned kr declared table t.well_formed no fn e labels.message l.message)))
     stmt_tells seen table env broken found t f kb (annotated p n a e) labels out l = annotated_tells seen n table t env
@@ -299,7 +299,7 @@ module _ (code : Code) (own : is_of_scopes code ≡ false) (setting : Surroundin
     stmt_tells seen table env broken found t f kb (assigns p x e) labels out l = assignment_tells seen table env found t
         f p x e labels out l
     stmt_tells seen table env broken found t f kb (evaluates p e) labels out l =
-        grow code found (finds_in (at context table env) None e) (coded_in code e labels)
+        grow code found (finds_in (standing_here context table env) None e) (coded_in code e labels)
         (tell_in code own setting returned kr declared table t.well_formed env f None tt e labels l.0)
     stmt_tells seen table env broken found t f kb (while_loop p c b) labels out l =
         let kt = t.well_formed in
@@ -308,7 +308,7 @@ module _ (code : Code) (own : is_of_scopes code ≡ false) (setting : Surroundin
         (head_fits setting declared table kt bound env f) in
         let q : labels.head ≡ head_at context table (bound_by b) env = l.head
         ∙ head_same setting declared table kt bound env f in
-        let xs = finds_in (at context table labels.head) None c in
+        let xs = finds_in (standing_here context table labels.head) None c in
         let yes = truth_same setting declared table kt true c labels.head fh in
         let no = truth_same setting declared table kt false c labels.head fh in
         let out_of = subst (EnvFits setting declared table) no (truth_fits setting declared table kt false c labels.head
@@ -329,7 +329,7 @@ module _ (code : Code) (own : is_of_scopes code ≡ false) (setting : Surroundin
           env = Some (narrowed_at context table true c h);
           broken =
               Some (narrowed_at context table false c h);
-          found = found ++ finds_in (at context table h) None c;
+          found = found ++ finds_in (standing_here context table h) None c;
         })
         b)).found (ds ++ es)) q
         (grow_then code found (found ++ xs) (walk_suite context start b).found ds es
@@ -346,7 +346,7 @@ module _ (code : Code) (own : is_of_scopes code ≡ false) (setting : Surroundin
         let q : labels.head ≡ head_at context table (n ∷ bound_by b) env = l.head
         ∙ head_same setting declared table kt bound env f in
         let it = iterable_told setting declared table kt env f returned e labels.iterable labels.item l.iterable in
-        let xs = iterable_finds context (at context table env) e in
+        let xs = iterable_finds context (standing_here context table env) e in
         let ys = codes_at (place_of e) labels.item.codes in
         let start = bind_item context table labels.head (ctx.resolve n.text) (place_of e) labels.item.type
         ((found ++ xs) ++ ys) in
@@ -436,7 +436,7 @@ module _ (code : Code) (own : is_of_scopes code ≡ false) (setting : Surroundin
     }
     branches_tells seen w env e t f kb (more_branches c b rest) labels last l =
         let kt = t.well_formed in
-        let xs = finds_in (at context w.table env) None c in
+        let xs = finds_in (standing_here context w.table env) None c in
         let yes = truth_same setting declared w.table kt true c env f in
         let no = truth_same setting declared w.table kt false c env f in
         let start : Walk = record {

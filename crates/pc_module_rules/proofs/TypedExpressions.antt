@@ -33,7 +33,7 @@ use Rattle.pc_module_rules.specs.Statements.{RangeOrValues, LawfulRange, LawfulV
 use Rattle.pc_module_rules.specs.Statements.{index_offers, LawfulStore, LawfulReturn, LawfulOption}
 use Rattle.pc_module_rules.specs.Laws.Labellings.{Surroundings}
 use Rattle.pc_module_rules.specs.Laws.Walks.{EnvFits}
-use Rattle.pc_module_rules.specs.Computed.Statements.{Table, type_table, BodyContext, attribute_stores, index_stores}
+use Rattle.pc_module_rules.specs.Computed.Statements.{DeclaredTypes, type_table, BodyContext, attribute_stores, index_stores}
 use Rattle.pc_module_rules.specs.Computed.Statements.{stored_finds, store_finds, iterable_finds, option_finds}
 use Rattle.pc_module_rules.specs.Computed.Statements.{return_finds}
 use Rattle.pc_module_rules.proofs.StoredTypes.{fields_stored, items_stored, only_well_formed}
@@ -51,7 +51,7 @@ abbrev pub KnowsRange : Surroundings → Type 0
 KnowsRange setting = (n : Name) → is_range (setting.context.resolve n.text) ≡ is_named (codes "range") (name n)
 
 module _ (setting : Surroundings) (knows : KnowsRange setting) (returned : Tree)
-    (kr : IsWellFormed setting.context.bases returned) (declared : List Tree) (table : Table)
+    (kr : IsWellFormed setting.context.bases returned) (declared : List Tree) (table : DeclaredTypes)
     (kt : IsWellFormedEnv setting.context.bases table) (env : Env) (h : EnvFits setting declared table env) where
   open setting use {whole as m, context as ctx, context_well_formed as ck}
 

@@ -42,7 +42,7 @@ use Rattle.pc_rules.proofs.ComputedLawful.{labels_are_lawful}
 use Rattle.pc_rules.proofs.Contexts.{bodies_well_formed, initializers_well_formed}
 use Rattle.pc_rules.proofs.One.{one_labelling}
 use Rattle.pc_module_rules.specs.Modules.{entry_parameters, names_entered, entry_env, FunctionLabels, LawfulFunction}
-use Rattle.pc_module_rules.specs.Modules.{MembersLabels, LawfulMembers, ItemLabels, ItemsLabels, constant_types}
+use Rattle.pc_module_rules.specs.Modules.{MembersLabels, LawfulMembers, ItemLabels, ModuleItemsLabels, constant_types}
 use Rattle.pc_module_rules.specs.Modules.{BeforeItem, nothing_before, before_next, LawfulItem, LawfulModuleItems}
 use Rattle.pc_module_rules.specs.Modules.{Labelling, IsLawful}
 use Rattle.pc_module_rules.specs.Laws.Labellings.{Surroundings}
@@ -184,7 +184,7 @@ module _ (m : Module) where
         (show_expression c.value labels.value)) (show_flows (place_of c.value) flows))
 
   items_show : (all : List Tree) (b : BeforeItem) → AreWellFormed bases b.constants → (items : List Item)
-      → (labels : ItemsLabels items) → LawfulModuleItems m all b items labels
+      → (labels : ModuleItemsLabels items) → LawfulModuleItems m all b items labels
       → Shows (items_findings m true (reached_at b) items) (types_in_each types_in_item items labels)
   items_show all b kb [] labels l = show_nothing
   items_show all b kb (constant_item p c ∷ rest) labels l =
@@ -265,7 +265,7 @@ module _ (m : Module) where
         (function_shows (owners.Method c number) f labels.method l.method found)
         (methods_show base c (suc number) (f.name.text ∷ before) rest labels.rest l.others one)
 
-    bodies_show : (b : BeforeItem) (items : List Item) (labels : ItemsLabels items)
+    bodies_show : (b : BeforeItem) (items : List Item) (labels : ModuleItemsLabels items)
         → LawfulModuleItems m all b items labels → (found : List Note)
         → ShowsMore found (bodies_find true m all b.classes b.functions items found)
         (types_in_each types_in_body items labels)

@@ -37,8 +37,8 @@ use Rattle.pc_module_rules.specs.Statements.{NamesBound, is_first, binds_number,
 use Rattle.pc_module_rules.specs.Statements.{LawfulBinding, annotation_at, LawfulAnnotated, LawfulStmt, LawfulSuite}
 use Rattle.pc_module_rules.specs.Statements.{LawfulBranches}
 use Rattle.pc_module_rules.specs.Laws.Labellings.{Surroundings}
-use Rattle.pc_module_rules.specs.Computed.Statements.{Table, bound_type, known_declared, BodyContext, Walk}
-use Rattle.pc_module_rules.specs.Computed.Statements.{BranchesResult, at, with_way, narrowed_at, head_at, item_label_of}
+use Rattle.pc_module_rules.specs.Computed.Statements.{DeclaredTypes, bound_type, known_declared, BodyContext, Walk}
+use Rattle.pc_module_rules.specs.Computed.Statements.{BranchesResult, standing_here, with_way, narrowed_at, head_at, item_label_of}
 use Rattle.pc_module_rules.specs.Computed.Statements.{iterable_finds, bind_label, bind_value}
 use Rattle.pc_module_rules.specs.Computed.Statements.{annotation_finds, bound_name, bind_item, store_finds}
 use Rattle.pc_module_rules.specs.Computed.Statements.{assign_target, option_finds, return_finds, behind_loop}
@@ -73,7 +73,7 @@ module _ (setting : Surroundings) (knows : KnowsRange setting) (returned : Tree)
   abbrev plain : BodyContext
   plain = body_context_in setting returned
 
-  abbrev TableHere : NamesBound → Table → Type 0
+  abbrev TableHere : NamesBound → DeclaredTypes → Type 0
   TableHere seen table = TableFits setting declared seen table
 
   abbrev LawfulHere : NamesBound → Env → (s : Stmt) → StmtLabels s → Option Env → Type 0
@@ -95,7 +95,7 @@ module _ (setting : Surroundings) (knows : KnowsRange setting) (returned : Tree)
       (note_holds (λ (xs : List Note). Shows xs []) show_nothing (λ q d t. record { are = refl }) valued b.table
       b.env r p)))
 
-  module _ (seen : NamesBound) (n : Name) (table : Table) (h : TableFits setting declared seen table) where
+  module _ (seen : NamesBound) (n : Name) (table : DeclaredTypes) (h : TableFits setting declared seen table) where
     -- binding a labelled value to a name shows no types besides those of the value
     label_shows : (env : Env) (x : ℕ) (want : Option Tree) (p : Place) (label : Label) (found : List Note)
         → ShowsMore found (bind_label context table env x want p label found).found []
@@ -118,8 +118,8 @@ module _ (setting : Surroundings) (knows : KnowsRange setting) (returned : Tree)
         let kw : IsWellFormedIfAny ctx.bases want = known_well_formed ctx.bases o a'
         (current_well_formed ctx.bases table x h.well_formed) ka in
         let lw = subst (λ y. Lawful ctx declared env y e labels) w l.value in
-        let finds = finds_in (at context table env) want e in
-        let label = label_in (at context table env) want e in
+        let finds = finds_in (standing_here context table env) want e in
+        let label = label_in (standing_here context table env) want e in
         let bound = bind_label context table env x want (place_of e) label (found ++ finds) in
         subst (λ (rows : List TypeAt). ShowsMore found bound.found rows) (append-nil (types_in e labels))
         (more_then found (found ++ finds) bound.found (types_in e labels) []
@@ -130,8 +130,8 @@ module _ (setting : Surroundings) (knows : KnowsRange setting) (returned : Tree)
     -- a name that means no local binds nothing
     plain_shows : (env : Env) → EnvFits setting declared table env → (e : Expr) (labels : Labels e) (found : List Note)
         → Lawful ctx declared env None e labels
-        → ShowsMore found (found ++ finds_in (at context table env) None e) (types_in e labels)
-    plain_shows env f e labels found l = more found (finds_in (at context table env) None e) (types_in e labels)
+        → ShowsMore found (found ++ finds_in (standing_here context table env) None e) (types_in e labels)
+    plain_shows env f e labels found l = more found (finds_in (standing_here context table env) None e) (types_in e labels)
         (show_read setting knows returned kr declared table h.well_formed env f None tt e labels l)
 
     binding_shows : (r : NameMeaning) → ctx.resolve n.text ≡ r → (env : Env) → EnvFits setting declared table env
@@ -182,7 +182,7 @@ module _ (setting : Surroundings) (knows : KnowsRange setting) (returned : Tree)
 
   -- ---- assignments
 
-  assignment_shows : (seen : NamesBound) (table : Table) (env : Env) (found : List Note) → TableHere seen table
+  assignment_shows : (seen : NamesBound) (table : DeclaredTypes) (env : Env) (found : List Note) → TableHere seen table
       → EnvFits setting declared table env → (p : Place) (t : Target) (e : Expr) (labels : StmtLabels (assigns p t e))
       (out : Option Env) → LawfulHere seen env (assigns p t e) labels out
       → ShowsMore found (assign_target context table env t e found).found (types_in_stmt (assigns p t e) labels)
@@ -192,12 +192,12 @@ module _ (setting : Surroundings) (knows : KnowsRange setting) (returned : Tree)
       (binding_shows seen n table t r refl env f None None (λ q. refl) tt e labels.value labels.flows l.after found
       l.assignment)
   assignment_shows seen table env found t f p (to_attribute q o field) e labels out l =
-      more found (store_finds context (at context table env) (to_attribute q o field) e)
+      more found (store_finds context (standing_here context table env) (to_attribute q o field) e)
       (types_in_stmt (assigns p (to_attribute q o field) e) labels)
       (show_store setting knows returned kr declared table t.well_formed env f (to_attribute q o field) labels.target e
       labels.value labels.flows l.assignment.0)
   assignment_shows seen table env found t f p (to_index q o i) e labels out l =
-      more found (store_finds context (at context table env) (to_index q o i) e)
+      more found (store_finds context (standing_here context table env) (to_index q o i) e)
       (types_in_stmt (assigns p (to_index q o i) e) labels)
       (show_store setting knows returned kr declared table t.well_formed env f (to_index q o i) labels.target e
       labels.value labels.flows l.assignment.0)
@@ -212,7 +212,7 @@ module _ (setting : Surroundings) (knows : KnowsRange setting) (returned : Tree)
       → LawfulThere seen env b labels out → ShowsMore w.found (walk_suite context w b).found (types_in_suite b labels)
 
   -- the notes of a statement and of those after it show the types in them
-  behind_shows : (b : Test) (seen : NamesBound) (env : Env) (table : Table) (found : List Note) (s : Stmt)
+  behind_shows : (b : Test) (seen : NamesBound) (env : Env) (table : DeclaredTypes) (found : List Note) (s : Stmt)
       (rest : Stmts) (s0 : StmtLabels s) (r : Behind b (Following (SuiteLabels rest))) (out : Option Env) (v : Walk)
       → ((o : Option Env) → LawfulHere seen env s s0 o
       → Stands setting returned kr declared (texts (bound_by_stmt s) ++ seen) table v o × ShowsMore found v.found (types_in_stmt s s0))
@@ -244,7 +244,7 @@ module _ (setting : Surroundings) (knows : KnowsRange setting) (returned : Tree)
     shows : ShowsMore found w.found rows
 
   mutual
-    stmt_shows : (seen : NamesBound) (table : Table) (env : Env) (broken : Option Env) (found : List Note)
+    stmt_shows : (seen : NamesBound) (table : DeclaredTypes) (env : Env) (broken : Option Env) (found : List Note)
         → TableHere seen table → EnvFits setting declared table env → OutFits setting declared table broken
         → (s : Stmt) (labels : StmtLabels s) (out : Option Env) → LawfulHere seen env s labels out
         → ShowsMore found (step context table (Some env) broken found s).found (types_in_stmt s labels)
@@ -252,20 +252,20 @@ module _ (setting : Surroundings) (knows : KnowsRange setting) (returned : Tree)
     stmt_shows seen table env broken found t f kb (breaks p) labels out l = more_none found
     stmt_shows seen table env broken found t f kb (continues p) labels out l = more_none found
     stmt_shows seen table env broken found t f kb (returns p e) labels out l =
-        more found (return_finds context (at context table env) p e) (types_in_option e labels.value)
+        more found (return_finds context (standing_here context table env) p e) (types_in_option e labels.value)
         (show_return setting knows returned kr declared table t.well_formed env f p e labels.value labels.flows l.0)
     stmt_shows seen table env broken found t f kb (asserts p c e) labels out l =
         let no = narrow ctx.bases declared ctx.resolve false c env in
         let fn = truth_fits setting declared table t.well_formed false c env f in
-        let xs = finds_in (at context table env) None c in
-        let ys = option_finds context (at context table (narrowed_at context table false c env)) None e in
+        let xs = finds_in (standing_here context table env) None c in
+        let ys = option_finds context (standing_here context table (narrowed_at context table false c env)) None e in
         let a = types_in c labels.condition in
         let b = types_in_option e labels.message in
         more_then found (found ++ xs) ((found ++ xs) ++ ys) a b
         (more found xs a (show_read setting knows returned kr declared table t.well_formed env f None tt c
         labels.condition l.condition))
         (more (found ++ xs) ys b
-        (subst (λ (x : Env). Shows (option_finds context (at context table x) None e) b)
+        (subst (λ (x : Env). Shows (option_finds context (standing_here context table x) None e) b)
         (truth_same setting declared table t.well_formed false c env f)
         (show_option setting knows returned kr declared table t.well_formed no fn e labels.message l.message)))
     stmt_shows seen table env broken found t f kb (annotated p n a e) labels out l =
@@ -275,7 +275,7 @@ module _ (setting : Surroundings) (knows : KnowsRange setting) (returned : Tree)
     stmt_shows seen table env broken found t f kb (assigns p x e) labels out l = assignment_shows seen table env found t
         f p x e labels out l
     stmt_shows seen table env broken found t f kb (evaluates p e) labels out l =
-        more found (finds_in (at context table env) None e) (types_in e labels)
+        more found (finds_in (standing_here context table env) None e) (types_in e labels)
         (show_read setting knows returned kr declared table t.well_formed env f None tt e labels l.0)
     stmt_shows seen table env broken found t f kb (while_loop p c b) labels out l =
         let kt = t.well_formed in
@@ -284,7 +284,7 @@ module _ (setting : Surroundings) (knows : KnowsRange setting) (returned : Tree)
         (head_fits setting declared table kt bound env f) in
         let q : labels.head ≡ head_at context table (bound_by b) env = l.head
         ∙ head_same setting declared table kt bound env f in
-        let xs = finds_in (at context table labels.head) None c in
+        let xs = finds_in (standing_here context table labels.head) None c in
         let yes = truth_same setting declared table kt true c labels.head fh in
         let no = truth_same setting declared table kt false c labels.head fh in
         let out_of = subst (EnvFits setting declared table) no (truth_fits setting declared table kt false c labels.head
@@ -303,7 +303,7 @@ module _ (setting : Surroundings) (knows : KnowsRange setting) (returned : Tree)
           table = table;
           env = Some (narrowed_at context table true c h);
           broken = Some (narrowed_at context table false c h);
-          found = found ++ finds_in (at context table h) None c;
+          found = found ++ finds_in (standing_here context table h) None c;
         })
         b)).found (rows ++ others)) q
         (more_then found (found ++ xs) (walk_suite context start b).found rows others
@@ -319,9 +319,9 @@ module _ (setting : Surroundings) (knows : KnowsRange setting) (returned : Tree)
         let q : labels.head ≡ head_at context table (n ∷ bound_by b) env = l.head
         ∙ head_same setting declared table kt names env f in
         let it = iterable_told setting declared table kt env f returned e labels.iterable labels.item l.iterable in
-        let item = item_label_of context (at context table env) e in
+        let item = item_label_of context (standing_here context table env) e in
         let item_is : item ≡ labels.item = same_item m ctx returned true false table env e ∙ it.item_is in
-        let xs = iterable_finds context (at context table env) e in
+        let xs = iterable_finds context (standing_here context table env) e in
         let ys = codes_at (place_of e) item.codes in
         let before = (found ++ xs) ++ ys in
         let bound = bind_item context table labels.head (ctx.resolve n.text) (place_of e) item.type before in
@@ -341,9 +341,9 @@ module _ (setting : Surroundings) (knows : KnowsRange setting) (returned : Tree)
         (noted_shows true (ctx.resolve n.text) n.place before bound []
         (target_shows seen n table t (ctx.resolve n.text) labels.head (place_of e) item.type before))
         (suite_shows (n.text ∷ seen) b body l.inside (ap Some (same.env ∙ tg.env_is))
-        (subst (λ (u : Table). TableHere (n.text ∷ seen) u) back tg.fits)
-        (subst (λ (u : Table). EnvFits setting declared u l.inside) back tg.env_fits)
-        (subst (λ (u : Table). EnvFits setting declared u labels.head) back (tg.grows labels.head fh))
+        (subst (λ (u : DeclaredTypes). TableHere (n.text ∷ seen) u) back tg.fits)
+        (subst (λ (u : DeclaredTypes). EnvFits setting declared u l.inside) back tg.env_fits)
+        (subst (λ (u : DeclaredTypes). EnvFits setting declared u labels.head) back (tg.grows labels.head fh))
         labels.body labels.out l.body)) in
         subst
         (λ (h : Env). ShowsMore found (behind_loop context broken (walk_suite context
@@ -406,7 +406,7 @@ module _ (setting : Surroundings) (knows : KnowsRange setting) (returned : Tree)
     }
     branches_show seen w env e t f kb (more_branches c b rest) labels last l =
         let kt = t.well_formed in
-        let xs = finds_in (at context w.table env) None c in
+        let xs = finds_in (standing_here context w.table env) None c in
         let yes = truth_same setting declared w.table kt true c env f in
         let no = truth_same setting declared w.table kt false c env f in
         let start : Walk = record {

@@ -31,8 +31,8 @@ use Rattle.pc_module_rules.specs.Statements.{NamesBound, is_first, only_code, De
 use Rattle.pc_module_rules.specs.Statements.{LawfulDeclaration, LawfulTarget, annotation_at, LawfulAnnotated}
 use Rattle.pc_module_rules.specs.Statements.{OptionFinds, option_place, AnnotationFinds}
 use Rattle.pc_module_rules.specs.Laws.Labellings.{Surroundings}
-use Rattle.pc_module_rules.specs.Computed.Statements.{Table, type_table, bound_type, known_declared, BodyContext}
-use Rattle.pc_module_rules.specs.Computed.Statements.{BindingResult, at, bind_label, bind_value, declared_alone}
+use Rattle.pc_module_rules.specs.Computed.Statements.{DeclaredTypes, type_table, bound_type, known_declared, BodyContext}
+use Rattle.pc_module_rules.specs.Computed.Statements.{BindingResult, standing_here, bind_label, bind_value, declared_alone}
 use Rattle.pc_module_rules.specs.Computed.Statements.{annotation_finds, bound_name, bind_annotated, bind_item}
 use Rattle.pc_module_rules.specs.Laws.Walks.{TableFits, EnvFits, Adds, body_context_in, Lists}
 use Rattle.pc_module_rules.proofs.BoundNames.{here_among}
@@ -57,7 +57,7 @@ module _ (setting : Surroundings) (returned : Tree) (declared : List Tree) where
   context = body_context_in setting returned
 
   -- a name bound has come to what is said: to this environment, with this found
-  pub record BoundSays (seen : NamesBound) (n : Name) (table : Table) (found : List Note) (b : BindingResult)
+  pub record BoundSays (seen : NamesBound) (n : Name) (table : DeclaredTypes) (found : List Note) (b : BindingResult)
       (after : Env) (Says : Finding → Type 0) : Type 0 where
     pub fits : TableFits setting declared (n.text ∷ seen) b.table
     pub grows : (env : Env) → EnvFits setting declared table env → EnvFits setting declared b.table env
@@ -65,7 +65,7 @@ module _ (setting : Surroundings) (returned : Tree) (declared : List Tree) where
     pub env_fits : EnvFits setting declared b.table after
     pub found_is : Adds found b.found Says
 
-  says_same : {P Q : Finding → Type 0} (seen : NamesBound) (n : Name) (table : Table) (found : List Note)
+  says_same : {P Q : Finding → Type 0} (seen : NamesBound) (n : Name) (table : DeclaredTypes) (found : List Note)
       (b : BindingResult) (after : Env) → ((f : Finding) → P f → Q f) → ((f : Finding) → Q f → P f)
       → BoundSays seen n table found b after P → BoundSays seen n table found b after Q
   says_same seen n table found b after to from h = record {
@@ -77,7 +77,7 @@ module _ (setting : Surroundings) (returned : Tree) (declared : List Tree) where
   }
 
   -- with more found before
-  says_behind : {P Q : Finding → Type 0} (seen : NamesBound) (n : Name) (table : Table) (found more : List Note)
+  says_behind : {P Q : Finding → Type 0} (seen : NamesBound) (n : Name) (table : DeclaredTypes) (found more : List Note)
       (b : BindingResult) (after : Env) → Adds found more P → BoundSays seen n table more b after Q
       → BoundSays seen n table found b after (λ f. P f ⊎ Q f)
   says_behind seen n table found more b after a h = record {
@@ -90,7 +90,7 @@ module _ (setting : Surroundings) (returned : Tree) (declared : List Tree) where
 
   -- ---- a local bound
 
-  module _ (seen : NamesBound) (n : Name) (table : Table) (h : TableFits setting declared seen table) where
+  module _ (seen : NamesBound) (n : Name) (table : DeclaredTypes) (h : TableFits setting declared seen table) where
     module _ (x : ℕ) (i : ctx.resolve n.text ≡ res.Local x) where
       bound_here : is_one_of n.text seen ≡ true → bound_type table x ≡ Some (declared_type declared x)
       bound_here e = h.bound n.text x e i
@@ -152,7 +152,7 @@ module _ (setting : Surroundings) (returned : Tree) (declared : List Tree) where
           let is : unwrap_or want (type_of e labels) ≡ declared_type declared x =
           ap (λ y. unwrap_or y (type_of e labels)) (sym w) ∙ type_is m ctx declared x o (is_one_of n.text seen)
           bound_here unbound_here (is_one_of n.text seen) a (type_of e labels) l.at_first in
-          let finds = finds_in (at context table env) want e in
+          let finds = finds_in (standing_here context table env) want e in
           subst (λ k. BoundSays seen n table found (bind_label context table env x want (place_of e) k (found ++ finds))
           after (λ g. Finds e labels g ⊎ IsFlowAt (place_of e) flows g)) (sym v.label)
           (says_behind seen n table found (found ++ finds) (bind_label context table env x want (place_of e)
@@ -168,7 +168,7 @@ module _ (setting : Surroundings) (returned : Tree) (declared : List Tree) where
           table = table;
           env = env;
           found =
-              found ++ finds_in (at context table env) None e;
+              found ++ finds_in (standing_here context table env) None e;
         }) after (λ f. Finds e labels f
         ⊎ IsFlowAt (place_of e) flows f)
     plain_says other env f e labels flows after found l none is =
@@ -179,9 +179,9 @@ module _ (setting : Surroundings) (returned : Tree) (declared : List Tree) where
           grows = nf.grows;
           env_is = sym is;
           env_fits = subst (EnvFits setting declared table) (sym is) f;
-          found_is = adds_same found (found ++ finds_in (at context table env) None e) (λ g y. inl y)
+          found_is = adds_same found (found ++ finds_in (standing_here context table env) None e) (λ g y. inl y)
               (nothing_flows flows (place_of e) (Finds e labels) none)
-              (adds_list found (finds_in (at context table env) None e) v.found);
+              (adds_list found (finds_in (standing_here context table env) None e) v.found);
         }
 
     pub binding_says : (r : NameMeaning) → ctx.resolve n.text ≡ r → (env : Env) → EnvFits setting declared table env

@@ -11,7 +11,7 @@ use Rattle.pc_flow.specs.WellFormed.{IsWellFormedEnv}
 use Rattle.pc_flow.proofs.Conditions.{conditions_well_formed, heads_well_formed, joins_well_formed}
 use Rattle.pc_rules.proofs.Same.{joins_alike, heads_alike, narrow_alike}
 use Rattle.pc_module_rules.specs.Laws.Labellings.{Surroundings}
-use Rattle.pc_module_rules.specs.Computed.Statements.{Table, type_table, join_onto_way, with_way}
+use Rattle.pc_module_rules.specs.Computed.Statements.{DeclaredTypes, type_table, join_onto_way, with_way}
 use Rattle.pc_module_rules.specs.Laws.Walks.{EnvFits, OutFits, with_breaks}
 use Rattle.pc_module_rules.proofs.WalkedTables.{types_well_formed}
 
@@ -31,7 +31,7 @@ pub no_breaks : (bases : Bases) (ds : List Tree) (broken : Option Env) → broke
 no_breaks bases ds None = refl
 no_breaks bases ds (Some way) = refl
 
-module _ (setting : Surroundings) (declared : List Tree) (table : Table)
+module _ (setting : Surroundings) (declared : List Tree) (table : DeclaredTypes)
     (kt : IsWellFormedEnv setting.context.bases table) where
   open setting use {context as ctx, context_well_formed as ck}
 

@@ -30,7 +30,7 @@ use Rattle.pc_rules.proofs.ComputedFlows.{are_tests, flows_are_lawful}
 use Rattle.pc_rules.proofs.ComputedLawful.{labels_are_lawful, items_lawful, keywords_lawful}
 use Rattle.pc_module_rules.specs.Statements.{RangeOrValues, LawfulRange, LawfulValues, LawfulIterable}
 use Rattle.pc_module_rules.specs.Laws.Labellings.{Surroundings}
-use Rattle.pc_module_rules.specs.Computed.Statements.{Table, type_table, BodyContext, values_item, item_label_of}
+use Rattle.pc_module_rules.specs.Computed.Statements.{DeclaredTypes, type_table, BodyContext, values_item, item_label_of}
 use Rattle.pc_module_rules.specs.Computed.Statements.{iterable_finds}
 use Rattle.pc_module_rules.specs.Laws.Walks.{EnvFits, body_context_in, Lists}
 use Rattle.pc_module_rules.proofs.LabelledExpressions.{range_item_well_formed}
@@ -52,7 +52,7 @@ module _ (setting : Surroundings) where
       ≡ flows → Lists (flows_at p (flows_of ctx.bases label ts)) (IsFlowAt p flows)
   flows_found p label ts flows e = subst (λ fs. Lists (flows_at p fs) (IsFlowAt p flows)) (sym e) (lists_flows p flows)
 
-  module _ (declared : List Tree) (table : Table) (kt : IsWellFormedEnv ctx.bases table) (env : Env)
+  module _ (declared : List Tree) (table : DeclaredTypes) (kt : IsWellFormedEnv ctx.bases table) (env : Env)
       (h : EnvFits setting declared table env) where
     -- the standing of the expressions that the walk types
     abbrev pub here : Standing

@@ -31,7 +31,7 @@ use Rattle.pc_rules.proofs.ComputedLawful.{has_labels}
 use Rattle.pc_rules.proofs.InitializersListed.{initializer_label, value_listed}
 use Rattle.pc_rules.proofs.One.{one_labelling}
 use Rattle.pc_rules.proofs.SignaturesListed.{option_listed}
-use Rattle.pc_module_rules.specs.Modules.{ItemLabels, ItemsLabels, constant_types, BeforeItem, before_next, LawfulItem}
+use Rattle.pc_module_rules.specs.Modules.{ItemLabels, ModuleItemsLabels, constant_types, BeforeItem, before_next, LawfulItem}
 use Rattle.pc_module_rules.specs.Modules.{LawfulModuleItems}
 use Rattle.pc_module_rules.specs.SignaturesSaid.{MembersSay, FunctionSays, FunctionsSay, ItemsSay}
 use Rattle.pc_module_rules.specs.Computed.Statements.{function_finds}
@@ -95,7 +95,7 @@ module _ (m : Module) where
 
   -- ---- functions' signatures
 
-  pub functions_listed : (all : List Tree) (b : BeforeItem) (items : List Item) (labels : ItemsLabels items)
+  pub functions_listed : (all : List Tree) (b : BeforeItem) (items : List Item) (labels : ModuleItemsLabels items)
       → LawfulModuleItems m all b items labels → Lists (functions_findings m items) (FunctionsSay m items labels)
   functions_listed all b [] labels l = lists_nothing
   functions_listed all b (i ∷ rest) labels l = lists_both (function_findings m i) (functions_findings m rest)
@@ -123,14 +123,14 @@ module _ (m : Module) where
 
   -- a walk over items comes to the types of their constants, which are well-formed, and finds, with what the class
   -- table finds in annotations, what is said of their constants and classes
-  pub record ItemsWalked (b : BeforeItem) (items : List Item) (labels : ItemsLabels items) : Type 0 where
+  pub record ItemsWalked (b : BeforeItem) (items : List Item) (labels : ModuleItemsLabels items) : Type 0 where
     pub types : (behind_all m (reached_at b) items).constants ≡ b.constants ++ constant_types m items labels
     pub well_formed : AreWellFormed (bases_of m) (b.constants ++ constant_types m items labels)
     pub listed : Lists (items_findings m false (reached_at b) items ++ map plain_note (classes_annotated m b.classes
         (classes_in items))) (ItemsSay m items labels)
 
   pub items_walked : (all : List Tree) (b : BeforeItem) → AreWellFormed (bases_of m) b.constants → (items : List Item)
-      → ClassesFrom m b.classes (classes_in items) → (labels : ItemsLabels items)
+      → ClassesFrom m b.classes (classes_in items) → (labels : ModuleItemsLabels items)
       → LawfulModuleItems m all b items labels → ItemsWalked b items labels
   items_walked all b kb [] from labels l = record {
     types = sym (append-nil b.constants);
@@ -192,7 +192,7 @@ module _ (m : Module) where
 
   module _ (all : List Tree) where
     -- the findings in bodies
-    abbrev pub BodiesSay : BeforeItem → (items : List Item) → ItemsLabels items → Finding → Type 0
+    abbrev pub BodiesSay : BeforeItem → (items : List Item) → ModuleItemsLabels items → Finding → Type 0
     BodiesSay b [] labels f = ⊥
     BodiesSay b (constant_item p c ∷ rest) labels f = BodiesSay (before_next m b (constant_item p c) labels.first) rest
         labels.rest f
@@ -202,7 +202,7 @@ module _ (m : Module) where
         ⊎ BodiesSay (before_next m b (def_item p d) labels.first) rest labels.rest f
 
     pub all_bodies_say : AreWellFormed (bases_of m) all → (b : BeforeItem) (items : List Item)
-        (labels : ItemsLabels items) → LawfulModuleItems m all b items labels → (found : List Note)
+        (labels : ModuleItemsLabels items) → LawfulModuleItems m all b items labels → (found : List Note)
         → Adds found (bodies_find false m all b.classes b.functions items found) (BodiesSay b items labels)
     all_bodies_say k b [] labels l found = adds_nothing found
     all_bodies_say k b (constant_item p c ∷ rest) labels l found =

@@ -12,7 +12,7 @@ use Rattle.pc_types.specs.Tree.{Tree}
 use Rattle.pc_annotations.specs.Listed.{ann_findings}
 use Rattle.pc_class.specs.Annotated.{def_annotated, fields_annotated, methods_annotated}
 use Rattle.pc_class.specs.Bases.{bases_of}
-use Rattle.pc_class.specs.Entries.{inherited_by, entries_of}
+use Rattle.pc_class.specs.Entries.{inherited_by, entries_of_members}
 use Rattle.pc_class.specs.Facts.{ClassFacts, binds_method}
 use Rattle.pc_flow.specs.WellFormed.{AreWellFormed}
 use Rattle.pc_notes.specs.Notes.{Note, plain_note}
@@ -98,13 +98,13 @@ module _ (m : Module) where
         (labels : MembersLabels ms) → LawfulMembers m constants base c number before ms labels
         → Lists (members_findings m base (λ t. is_one_of t before) ms
         ++ map plain_note (fields_annotated m ms ++ methods_annotated m
-        (entries_of (inherited_by base) before number ms))) (MembersSay m ms labels)
+        (entries_of_members (inherited_by base) before number ms))) (MembersSay m ms labels)
     members_listed base c number before [] labels l = lists_nothing
     members_listed base c number before (field_member d ∷ rest) labels l =
         let one = field_default m base (λ t. is_one_of t before) d in
         let anns = ann_findings m (bases_of m) d.annotation in
         let fields = fields_annotated m rest in
-        let methods = methods_annotated m (entries_of (inherited_by base) (d.name.text ∷ before) number rest) in
+        let methods = methods_annotated m (entries_of_members (inherited_by base) (d.name.text ∷ before) number rest) in
         lists_beside one (members_findings m base (λ t. is_one_of t (d.name.text ∷ before)) rest) anns
         (fields ++ methods) ((anns ++ fields) ++ methods) (same_among (append_assoc anns fields methods))
         (lists_each (one ++ map plain_note anns) (λ g. field_listed m g base before d labels.default l.default))
@@ -114,7 +114,7 @@ module _ (m : Module) where
         let one = method_findings m binds d in
         let anns = if binds then def_annotated m d else [] in
         let fields = fields_annotated m rest in
-        let methods = methods_annotated m (entries_of (inherited_by base) (d.name.text ∷ before) (suc number) rest) in
+        let methods = methods_annotated m (entries_of_members (inherited_by base) (d.name.text ∷ before) (suc number) rest) in
         lists_beside one (members_findings m base (λ t. is_one_of t (d.name.text ∷ before)) rest) anns
         (fields ++ methods) (fields ++ (anns ++ methods))
         (λ g. (moved fields anns methods g, moved anns fields methods g))

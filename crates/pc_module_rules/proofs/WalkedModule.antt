@@ -15,8 +15,8 @@ use Rattle.pc_flow.specs.WellFormed.{AreWellFormed}
 use Rattle.pc_notes.specs.Notes.{Note, plain_note, findings_of}
 use Rattle.pc_rules.specs.Computed.Signatures.{constants_of, signatures_find, nothing_reached, functions_findings}
 use Rattle.pc_rules.specs.Computed.Signatures.{items_findings}
-use Rattle.pc_module_rules.specs.Modules.{Labelling, IsLawful, ItemsLabels, BeforeItem, nothing_before, before_next}
-use Rattle.pc_module_rules.specs.Modules.{constant_types, ItemsFind, LabelsSay, LabelsFind, IsFinding}
+use Rattle.pc_module_rules.specs.Modules.{Labelling, IsLawful, ModuleItemsLabels, BeforeItem, nothing_before, before_next}
+use Rattle.pc_module_rules.specs.Modules.{constant_types, ModuleItemsFind, LabelsSay, LabelsFind, IsFinding}
 use Rattle.pc_module_rules.specs.SignaturesSaid.{FunctionsSay, ItemsSay, SignaturesSay}
 use Rattle.pc_module_rules.specs.Computed.Modules.{bodies_find, module_notes, module_finds}
 use Rattle.pc_module_rules.specs.Laws.Walks.{Adds, Lists}
@@ -56,11 +56,11 @@ either_part s = elim s [
 
 module _ (m : Module) (all : List Tree) (f : Finding) where
   -- the findings under labels of items: in signatures of functions, in constants and classes, and in bodies
-  abbrev InParts : BeforeItem → (items : List Item) → ItemsLabels items → Type 0
+  abbrev InParts : BeforeItem → (items : List Item) → ModuleItemsLabels items → Type 0
   InParts b items labels = (FunctionsSay m items labels f ⊎ ItemsSay m items labels f)
       ⊎ BodiesSay m all b items labels f
 
-  items_split : (b : BeforeItem) (items : List Item) (labels : ItemsLabels items) → ItemsFind m all b items labels f
+  items_split : (b : BeforeItem) (items : List Item) (labels : ModuleItemsLabels items) → ModuleItemsFind m all b items labels f
       → InParts b items labels
   items_split b [] labels h = absurd h
   items_split b (constant_item p c ∷ rest) labels h = elim h [
@@ -84,8 +84,8 @@ module _ (m : Module) (all : List Tree) (f : Finding) where
     | inr r ↦ other_part (items_split (before_next m b (def_item p d) labels.first) rest labels.rest r)
   ]
 
-  items_joined : (b : BeforeItem) (items : List Item) (labels : ItemsLabels items) → InParts b items labels
-      → ItemsFind m all b items labels f
+  items_joined : (b : BeforeItem) (items : List Item) (labels : ModuleItemsLabels items) → InParts b items labels
+      → ModuleItemsFind m all b items labels f
   items_joined b [] labels h = elim h [ inl t ↦ elim t [ inl x ↦ x | inr y ↦ y ] | inr z ↦ z ]
   items_joined b (constant_item p c ∷ rest) labels h =
       let next = items_joined (before_next m b (constant_item p c) labels.first) rest labels.rest in

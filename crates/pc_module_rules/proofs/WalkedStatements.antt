@@ -24,7 +24,7 @@ use Rattle.pc_module_rules.specs.StatementLabels.{breaks_in_branches, ways_in}
 use Rattle.pc_module_rules.specs.Statements.{NamesBound, binds_number, AreUndeclared, OptionFinds, StmtFinds}
 use Rattle.pc_module_rules.specs.Statements.{SuiteFinds, BranchesFind, LawfulStmt, LawfulSuite, LawfulBranches}
 use Rattle.pc_module_rules.specs.Laws.Labellings.{Surroundings}
-use Rattle.pc_module_rules.specs.Computed.Statements.{Table, BodyContext, Walk, BranchesResult, BindingResult, at}
+use Rattle.pc_module_rules.specs.Computed.Statements.{DeclaredTypes, BodyContext, Walk, BranchesResult, BindingResult, standing_here}
 use Rattle.pc_module_rules.specs.Computed.Statements.{with_way, narrowed_at, head_at, iterable_finds, bind_value}
 use Rattle.pc_module_rules.specs.Computed.Statements.{bind_annotated, bind_item, store_finds, option_finds}
 use Rattle.pc_module_rules.specs.Computed.Statements.{return_finds, behind_binding, inside_for, behind_loop}
@@ -42,7 +42,7 @@ use Rattle.pc_module_rules.proofs.WalkedStores.{store_says, option_says, return_
 -- A walk over branches has come to what labels say: to the environment where no condition was true, and with the ways
 -- out of the suites
 -- joined after those before.
-record ForkSays (setting : Surroundings) (declared : List Tree) (seen : NamesBound) (table : Table) (ways : List Env)
+record ForkSays (setting : Surroundings) (declared : List Tree) (seen : NamesBound) (table : DeclaredTypes) (ways : List Env)
     (broken : Option Env) (found : List Note) (w : BranchesResult) (last : Env) (more envs : List Env)
     (Says : Finding → Type 0) : Type 0 where
   fits : TableFits setting declared seen w.table
@@ -62,10 +62,10 @@ module _ (setting : Surroundings) (returned : Tree) (kr : IsWellFormed setting.c
   abbrev context : BodyContext
   context = body_context_in setting returned
 
-  abbrev TableHere : NamesBound → Table → Type 0
+  abbrev TableHere : NamesBound → DeclaredTypes → Type 0
   TableHere seen table = TableFits setting declared seen table
 
-  abbrev WalkHere : NamesBound → Table → Option Env → List Note → Walk → Option Env → List Env → (Finding → Type 0)
+  abbrev WalkHere : NamesBound → DeclaredTypes → Option Env → List Note → Walk → Option Env → List Env → (Finding → Type 0)
       → Type 0
   WalkHere seen table broken found w out envs P = WalkSays setting declared seen table broken found w out envs P
 
@@ -80,7 +80,7 @@ module _ (setting : Surroundings) (returned : Tree) (kr : IsWellFormed setting.c
 
   -- ---- walks, one after the other
 
-  both_say : {P Q : Finding → Type 0} (before seen : NamesBound) (table : Table) (broken : Option Env)
+  both_say : {P Q : Finding → Type 0} (before seen : NamesBound) (table : DeclaredTypes) (broken : Option Env)
       (found : List Note) (v w : Walk) (mid out : Option Env) (a b : List Env)
       → WalkHere before table broken found v mid a P → WalkHere seen v.table v.broken v.found w out b Q
       → WalkHere seen table broken found w out (a ++ b) (λ f. P f ⊎ Q f)
@@ -96,7 +96,7 @@ module _ (setting : Surroundings) (returned : Tree) (kr : IsWellFormed setting.c
   }
 
   -- of the same that is found
-  says_same : {P Q : Finding → Type 0} (seen : NamesBound) (table : Table) (broken : Option Env) (found : List Note)
+  says_same : {P Q : Finding → Type 0} (seen : NamesBound) (table : DeclaredTypes) (broken : Option Env) (found : List Note)
       (w : Walk) (out : Option Env) (a : List Env) → ((f : Finding) → P f → Q f) → ((f : Finding) → Q f → P f)
       → WalkHere seen table broken found w out a P → WalkHere seen table broken found w out a Q
   says_same seen table broken found w out a to from h = record {
@@ -111,7 +111,7 @@ module _ (setting : Surroundings) (returned : Tree) (kr : IsWellFormed setting.c
   }
 
   -- a walk that binds nothing
-  stays : {P : Finding → Type 0} (seen : NamesBound) (table : Table) (broken : Option Env) (found more : List Note)
+  stays : {P : Finding → Type 0} (seen : NamesBound) (table : DeclaredTypes) (broken : Option Env) (found more : List Note)
       (after out : Option Env) → TableHere seen table → OutFits setting declared table broken → after ≡ out
       → OutFits setting declared table after → Adds found more P
       → WalkHere seen table broken found (record { table = table; env = after; broken = broken; found = more }) out [] P
@@ -126,7 +126,7 @@ module _ (setting : Surroundings) (returned : Tree) (kr : IsWellFormed setting.c
   }
 
   -- a walk after a name bound
-  bound_says : {P : Finding → Type 0} (seen : NamesBound) (n : Name) (table : Table) (broken : Option Env)
+  bound_says : {P : Finding → Type 0} (seen : NamesBound) (n : Name) (table : DeclaredTypes) (broken : Option Env)
       (found : List Note) (b : BindingResult) (after : Env) (out : Option Env) → OutFits setting declared table broken
       → out ≡ Some after → BoundSays setting returned declared seen n table found b after P
       → WalkHere (n.text ∷ seen) table broken found (behind_binding context broken b) out [] P
@@ -160,7 +160,7 @@ module _ (setting : Surroundings) (returned : Tree) (kr : IsWellFormed setting.c
       })
 
   -- a statement, and what stands after it
-  behind_says : (b : Test) (seen : NamesBound) (table : Table) (env : Env) (broken : Option Env) (found : List Note)
+  behind_says : (b : Test) (seen : NamesBound) (table : DeclaredTypes) (env : Env) (broken : Option Env) (found : List Note)
       (s : Stmt) (rest : Stmts) (s0 : StmtLabels s) (r : Behind b (Following (SuiteLabels rest))) (out : Option Env)
       → ((o : Option Env) → LawfulHere seen env s s0 o → WalkHere (texts (bound_by_stmt s) ++ seen) table broken found
       (step context table (Some env) broken found s) o (breaks_in s s0) (StmtFinds m ctx seen s s0))
@@ -191,7 +191,7 @@ module _ (setting : Surroundings) (returned : Tree) (kr : IsWellFormed setting.c
       broken found v (walk_suite context v rest) None out (breaks_in s s0) [] f n
 
   -- with the names of both in order
-  says_named : {P : Finding → Type 0} (a b : List Name) (seen : NamesBound) (table : Table) (broken : Option Env)
+  says_named : {P : Finding → Type 0} (a b : List Name) (seen : NamesBound) (table : DeclaredTypes) (broken : Option Env)
       (found : List Note) (w : Walk) (out : Option Env) (envs : List Env) → WalkHere (texts b ++ (texts a ++ seen))
       table broken found w out envs P → WalkHere (texts (a ++ b) ++ seen) table broken found w out envs P
   says_named a b seen table broken found w out envs h = record {
@@ -208,7 +208,7 @@ module _ (setting : Surroundings) (returned : Tree) (kr : IsWellFormed setting.c
 
   -- ---- assignments
 
-  assignment_says : (seen : NamesBound) (table : Table) (env : Env) (broken : Option Env) (found : List Note)
+  assignment_says : (seen : NamesBound) (table : DeclaredTypes) (env : Env) (broken : Option Env) (found : List Note)
       → TableHere seen table → EnvFits setting declared table env → OutFits setting declared table broken
       → (p : Place) (t : Target) (e : Expr) (labels : StmtLabels (assigns p t e)) (out : Option Env)
       → LawfulHere seen env (assigns p t e) labels out
@@ -226,20 +226,20 @@ module _ (setting : Surroundings) (returned : Tree) (kr : IsWellFormed setting.c
   assignment_says seen table env broken found t f k p (to_attribute q o field) e labels out l =
       let v = store_says setting returned kr declared table t.well_formed env f (to_attribute q o field) labels.target e
       labels.value labels.flows l.assignment.0 in
-      let xs = store_finds context (at context table env) (to_attribute q o field) e in
+      let xs = store_finds context (standing_here context table env) (to_attribute q o field) e in
       stays seen table broken found (found ++ xs) (Some env) out t k (ap Some (sym l.assignment.1) ∙ sym l.is) f
       (adds_list found xs v)
   assignment_says seen table env broken found t f k p (to_index q o i) e labels out l =
       let v = store_says setting returned kr declared table t.well_formed env f (to_index q o i) labels.target e
       labels.value labels.flows l.assignment.0 in
-      let xs = store_finds context (at context table env) (to_index q o i) e in
+      let xs = store_finds context (standing_here context table env) (to_index q o i) e in
       stays seen table broken found (found ++ xs) (Some env) out t k (ap Some (sym l.assignment.1) ∙ sym l.is) f
       (adds_list found xs v)
 
   -- ---- statements, suites and branches
 
   mutual
-    pub stmt_says : (seen : NamesBound) (table : Table) (env : Env) (broken : Option Env) (found : List Note)
+    pub stmt_says : (seen : NamesBound) (table : DeclaredTypes) (env : Env) (broken : Option Env) (found : List Note)
         → TableHere seen table → EnvFits setting declared table env → OutFits setting declared table broken
         → (s : Stmt) (labels : StmtLabels s) (out : Option Env) → LawfulHere seen env s labels out
         → WalkHere (texts (bound_by_stmt s) ++ seen) table broken found (step context table (Some env) broken found s)
@@ -260,16 +260,16 @@ module _ (setting : Surroundings) (returned : Tree) (kr : IsWellFormed setting.c
         out t k (sym l) tt (adds_nothing found)
     stmt_says seen table env broken found t f k (returns p e) labels out l =
         let v = return_says setting returned kr declared table t.well_formed env f p e labels.value labels.flows l.0 in
-        let xs = return_finds context (at context table env) p e in
+        let xs = return_finds context (standing_here context table env) p e in
         stays seen table broken found (found ++ xs) None out t k (sym l.1) tt (adds_list found xs v)
     stmt_says seen table env broken found t f k (asserts p c e) labels out l =
         let v = told setting declared table t.well_formed env f None tt c labels.condition l.condition in
         let no = truth_of false c env in
         let fn = truth_fits setting declared table t.well_formed false c env f in
         let w = option_says setting returned kr declared table t.well_formed no fn e labels.message l.message in
-        let xs = finds_in (at context table env) None c in
-        let ys = option_finds context (at context table (narrowed_at context table false c env)) None e in
-        let more = adds_list (found ++ xs) ys (subst (λ x. Lists (option_finds context (at context table x) None e)
+        let xs = finds_in (standing_here context table env) None c in
+        let ys = option_finds context (standing_here context table (narrowed_at context table false c env)) None e in
+        let more = adds_list (found ++ xs) ys (subst (λ x. Lists (option_finds context (standing_here context table x) None e)
         (OptionFinds m ctx e labels.message)) (truth_same setting declared table t.well_formed false c env f) w) in
         stays seen table broken found ((found ++ xs) ++ ys) (Some (narrowed_at context table true c env)) out t k
         (ap Some (sym (truth_same setting declared table t.well_formed true c env f)) ∙ sym l.after)
@@ -284,7 +284,7 @@ module _ (setting : Surroundings) (returned : Tree) (kr : IsWellFormed setting.c
         found t f k p x e labels out l
     stmt_says seen table env broken found t f k (evaluates p e) labels out l =
         let v = told setting declared table t.well_formed env f None tt e labels l.0 in
-        let xs = finds_in (at context table env) None e in
+        let xs = finds_in (standing_here context table env) None e in
         stays seen table broken found (found ++ xs) (Some env) out t k (sym l.1) f (adds_list found xs v.found)
     stmt_says seen table env broken found t f k (while_loop p c b) labels out l =
         let kt = t.well_formed in
@@ -294,7 +294,7 @@ module _ (setting : Surroundings) (returned : Tree) (kr : IsWellFormed setting.c
         let q : labels.head ≡ head_at context table (bound_by b) env = l.head
         ∙ head_same setting declared table kt bound env f in
         let v = told setting declared table kt labels.head fh None tt c labels.condition l.condition in
-        let xs = finds_in (at context table labels.head) None c in
+        let xs = finds_in (standing_here context table labels.head) None c in
         let yes = truth_same setting declared table kt true c labels.head fh in
         let no = truth_same setting declared table kt false c labels.head fh in
         let out_of = subst (EnvFits setting declared table) no (truth_fits setting declared table kt false c labels.head
@@ -319,7 +319,7 @@ module _ (setting : Surroundings) (returned : Tree) (kr : IsWellFormed setting.c
           env = Some (narrowed_at context table true c h);
           broken =
               Some (narrowed_at context table false c h);
-          found = found ++ finds_in (at context table h) None c;
+          found = found ++ finds_in (standing_here context table h) None c;
         }) b)) out
         [] (StmtFinds m ctx seen (while_loop p c b) labels)) q
         (record {
@@ -339,7 +339,7 @@ module _ (setting : Surroundings) (returned : Tree) (kr : IsWellFormed setting.c
         let q : labels.head ≡ head_at context table (n ∷ bound_by b) env = l.head
         ∙ head_same setting declared table kt bound env f in
         let it = iterable_told setting declared table kt env f returned e labels.iterable labels.item l.iterable in
-        let xs = iterable_finds context (at context table env) e in
+        let xs = iterable_finds context (standing_here context table env) e in
         let ys = codes_at (place_of e) labels.item.codes in
         let start = bind_item context table labels.head (ctx.resolve n.text) (place_of e) labels.item.type
         ((found ++ xs) ++ ys) in
@@ -479,7 +479,7 @@ module _ (setting : Surroundings) (returned : Tree) (kr : IsWellFormed setting.c
     branches_says seen w env before e ways t f kw k (more_branches c b rest) labels last l =
         let kt = t.well_formed in
         let v = told setting declared w.table kt env f None tt c labels.condition l.condition in
-        let xs = finds_in (at context w.table env) None c in
+        let xs = finds_in (standing_here context w.table env) None c in
         let yes = truth_same setting declared w.table kt true c env f in
         let no = truth_same setting declared w.table kt false c env f in
         let start : Walk = record {

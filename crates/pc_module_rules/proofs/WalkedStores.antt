@@ -21,7 +21,7 @@ use Rattle.pc_module_rules.specs.StatementLabels.{OptionLabels, TargetLabels}
 use Rattle.pc_module_rules.specs.Statements.{attribute_offers, index_offers, LawfulStore, LawfulReturn, LawfulOption}
 use Rattle.pc_module_rules.specs.Statements.{OptionFinds, option_place, TargetFinds}
 use Rattle.pc_module_rules.specs.Laws.Labellings.{Surroundings}
-use Rattle.pc_module_rules.specs.Computed.Statements.{Table, BodyContext, attribute_stores, index_stores, stored_finds}
+use Rattle.pc_module_rules.specs.Computed.Statements.{DeclaredTypes, BodyContext, attribute_stores, index_stores, stored_finds}
 use Rattle.pc_module_rules.specs.Computed.Statements.{store_finds, option_finds, return_finds}
 use Rattle.pc_module_rules.specs.Laws.Walks.{EnvFits, body_context_in, Lists}
 use Rattle.pc_module_rules.proofs.StoredTypes.{fields_stored, items_stored, keys_stored, only_well_formed}
@@ -29,7 +29,7 @@ use Rattle.pc_module_rules.proofs.WalkedFindings.{lists_nothing, lists_same, lis
 use Rattle.pc_module_rules.proofs.WalkedExpressions.{here, ExpressionTold, told, flows_told, flows_found}
 
 module _ (setting : Surroundings) (returned : Tree) (kr : IsWellFormed setting.context.bases returned)
-    (declared : List Tree) (table : Table) (kt : IsWellFormedEnv setting.context.bases table) (env : Env)
+    (declared : List Tree) (table : DeclaredTypes) (kt : IsWellFormedEnv setting.context.bases table) (env : Env)
     (h : EnvFits setting declared table env) where
   open setting use {whole as m, context as ctx, context_well_formed as ck}
 

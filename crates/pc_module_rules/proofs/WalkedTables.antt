@@ -20,7 +20,7 @@ use Rattle.pc_flow.specs.WellFormed.{AreWellFormed, IsWellFormedEnv}
 use Rattle.pc_flow.proofs.Conditions.{assign_well_formed}
 use Rattle.pc_module_rules.specs.Statements.{NamesBound, is_first, UndeclaredName, AreUndeclared}
 use Rattle.pc_module_rules.specs.Laws.Labellings.{Surroundings}
-use Rattle.pc_module_rules.specs.Computed.Statements.{Table, type_table, bound_type, with_declared, BodyContext, Walk}
+use Rattle.pc_module_rules.specs.Computed.Statements.{DeclaredTypes, type_table, bound_type, with_declared, BodyContext, Walk}
 use Rattle.pc_module_rules.specs.Computed.Statements.{unreached_name, unreached_names, walk_suite}
 use Rattle.pc_module_rules.specs.Laws.Walks.{TableFits, EnvFits, OutFits, body_context_in}
 use Rattle.pc_module_rules.proofs.BoundNames.{Within, within_both}
@@ -28,14 +28,14 @@ use Rattle.pc_module_rules.proofs.OneStatement.{among_both}
 
 -- ---- types in a table
 
-pub types_well_formed : (bases : Bases) (table : Table) → IsWellFormedEnv bases table
+pub types_well_formed : (bases : Bases) (table : DeclaredTypes) → IsWellFormedEnv bases table
     → AreWellFormed bases (type_table table)
 types_well_formed bases [] k = tt
 types_well_formed bases (None ∷ table) k = ((tt, tt, omega arith), types_well_formed bases table k.1)
 types_well_formed bases (Some t ∷ table) k = (k.0, types_well_formed bases table k.1)
 
 -- a local set to its declared type
-set_same : (declared : List Tree) (table : Table) (env : Env) (x : ℕ) (t : Tree) → declared_type declared x ≡ t
+set_same : (declared : List Tree) (table : DeclaredTypes) (env : Env) (x : ℕ) (t : Tree) → declared_type declared x ≡ t
     → SameWhere declared (type_table table) env → SameWhere declared (type_table (slice_set table x (Some t))) env
 set_same [] [] [] x t e h = tt
 set_same (d ∷ ds) (o ∷ os) (None ∷ env) zero t e h = (tt, h.1)
@@ -59,20 +59,20 @@ or_none false b e = (refl, e)
 module _ (setting : Surroundings) (declared : List Tree) where
   open setting use {context as ctx, count, locals as names}
 
-  abbrev TableHere : NamesBound → Table → Type 0
+  abbrev TableHere : NamesBound → DeclaredTypes → Type 0
   TableHere seen table = TableFits setting declared seen table
 
   -- each environment that fits one table fits the other
-  abbrev pub KeepsFits : Table → Table → Type 0
+  abbrev pub KeepsFits : DeclaredTypes → DeclaredTypes → Type 0
   KeepsFits table after = (env : Env) → EnvFits setting declared table env → EnvFits setting declared after env
 
-  pub out_grows : (table after : Table) (out : Option Env) → KeepsFits table after → OutFits setting declared table out
+  pub out_grows : (table after : DeclaredTypes) (out : Option Env) → KeepsFits table after → OutFits setting declared table out
       → OutFits setting declared after out
   out_grows table after None g h = tt
   out_grows table after (Some env) g h = g env h
 
   -- the same names bound so far
-  pub fits_on : (seen after : NamesBound) (table : Table) → Within after seen → Within seen after → TableHere seen table
+  pub fits_on : (seen after : NamesBound) (table : DeclaredTypes) → Within after seen → Within seen after → TableHere seen table
       → TableHere after table
   fits_on seen after table less more h = record {
     long = h.long;
@@ -86,7 +86,7 @@ module _ (setting : Surroundings) (declared : List Tree) where
       missing w n false e = refl
 
   -- names of two lists, one after the other
-  pub fits_both : (a b : List Name) (seen : NamesBound) (table : Table) → TableHere (texts b ++ (texts a ++ seen)) table
+  pub fits_both : (a b : List Name) (seen : NamesBound) (table : DeclaredTypes) → TableHere (texts b ++ (texts a ++ seen)) table
       → TableHere (texts (a ++ b) ++ seen) table
   fits_both a b seen table h = fits_on (texts b ++ (texts a ++ seen)) (texts (a ++ b) ++ seen) table
       (λ w i. among_both w a b seen i) (λ w i. within_both a b seen w i) h
@@ -94,12 +94,12 @@ module _ (setting : Surroundings) (declared : List Tree) where
   -- ---- a name bound
 
   -- a table with one name more
-  pub record NameFits (seen : NamesBound) (word : List ℕ) (table after : Table) : Type 0 where
+  pub record NameFits (seen : NamesBound) (word : List ℕ) (table after : DeclaredTypes) : Type 0 where
     pub fits : TableFits setting declared (word ∷ seen) after
     pub grows : (env : Env) → EnvFits setting declared table env → EnvFits setting declared after env
 
   -- a name bound again
-  again_fits : (seen : NamesBound) (word : List ℕ) (table : Table) → is_one_of word seen ≡ true → TableHere seen table
+  again_fits : (seen : NamesBound) (word : List ℕ) (table : DeclaredTypes) → is_one_of word seen ≡ true → TableHere seen table
       → TableHere (word ∷ seen) table
   again_fits seen word table a h = fits_on seen (word ∷ seen) table less
       (λ w i. or_right (bytes_eq w word) (is_one_of w seen) i) h
@@ -109,7 +109,7 @@ module _ (setting : Surroundings) (declared : List Tree) where
           [ inl e ↦ subst (λ v. is_one_of v seen ≡ true) (sym ((bytes_eq-Decides w word).0 e)) a | inr k ↦ k ]
 
   -- a name that means no local
-  pub other_fits : (seen : NamesBound) (word : List ℕ) (table : Table) → ((x : ℕ) → ctx.resolve word ≡ res.Local x → ⊥)
+  pub other_fits : (seen : NamesBound) (word : List ℕ) (table : DeclaredTypes) → ((x : ℕ) → ctx.resolve word ≡ res.Local x → ⊥)
       → TableHere seen table → NameFits seen word table table
   other_fits seen word table other h = record {
     fits = record {
@@ -125,7 +125,7 @@ module _ (setting : Surroundings) (declared : List Tree) where
     grows = λ env k. k;
   }
 
-  module _ (seen : NamesBound) (word : List ℕ) (x : ℕ) (i : ctx.resolve word ≡ res.Local x) (table : Table)
+  module _ (seen : NamesBound) (word : List ℕ) (x : ℕ) (i : ctx.resolve word ≡ res.Local x) (table : DeclaredTypes)
       (h : TableFits setting declared seen table) where
     -- another name means another local
     apart : (w : List ℕ) (y : ℕ) → ctx.resolve w ≡ res.Local y → bytes_eq w word ≡ false → y ≡ x → ⊥
@@ -178,7 +178,7 @@ module _ (setting : Surroundings) (declared : List Tree) where
     abbrev context : BodyContext
     context = body_context_in setting returned
 
-    unreached_fits : (seen : NamesBound) (table : Table) → TableHere seen table → (n : Name) (r : NameMeaning)
+    unreached_fits : (seen : NamesBound) (table : DeclaredTypes) → TableHere seen table → (n : Name) (r : NameMeaning)
         → ctx.resolve n.text ≡ r → UndeclaredName setting.whole ctx declared (is_first seen n) r
         → NameFits seen n.text table (unreached_name context table r)
     unreached_fits seen table h n (res.Local x) i u = name_fits seen n.text x i table h Any
@@ -199,11 +199,11 @@ module _ (setting : Surroundings) (declared : List Tree) where
     unreached_fits seen table h n res.None i u = other_fits seen n.text table (λ x j. absurd (grind (arith, i, j))) h
 
     -- a table with several names more
-    pub record NamesFit (after : NamesBound) (table more : Table) : Type 0 where
+    pub record NamesFit (after : NamesBound) (table more : DeclaredTypes) : Type 0 where
       pub fits : TableFits setting declared after more
       pub grows : (env : Env) → EnvFits setting declared table env → EnvFits setting declared more env
 
-    pub all_unreached_fit : (seen : NamesBound) (table : Table) → TableHere seen table → (ns : List Name)
+    pub all_unreached_fit : (seen : NamesBound) (table : DeclaredTypes) → TableHere seen table → (ns : List Name)
         → AreUndeclared setting.whole ctx declared seen ns → NamesFit (texts ns ++ seen) table
         (unreached_names context table ns)
     all_unreached_fit seen table h [] u = record { fits = h; grows = λ env k. k }
@@ -214,7 +214,7 @@ module _ (setting : Surroundings) (declared : List Tree) where
         record { fits = fits_both (n ∷ []) ns seen _ rest.fits; grows = λ env k. rest.grows env (first.grows env k) }
 
     -- a walk over a suite that no run comes to
-    unreached_more : (table : Table) (a b : List Name) → unreached_names context (unreached_names context table a) b
+    unreached_more : (table : DeclaredTypes) (a b : List Name) → unreached_names context (unreached_names context table a) b
         ≡ unreached_names context table (a ++ b)
     unreached_more table [] b = refl
     unreached_more table (n ∷ a) b = unreached_more (unreached_name context table (ctx.resolve n.text)) a b

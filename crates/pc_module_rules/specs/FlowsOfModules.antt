@@ -10,12 +10,12 @@ use Rattle.pc_tree.specs.Tree.{class_item, def_item, Module}
 use Rattle.pc_types.specs.Tree.{Tree}
 use Rattle.pc_rules.specs.Labels.{FlowLabels}
 use Rattle.pc_rules.specs.Signatures.{literal_place, ParamsLabels}
-use Rattle.pc_module_rules.specs.Modules.{MembersLabels, ItemLabels, ItemsLabels, Labelling, IsLawful}
+use Rattle.pc_module_rules.specs.Modules.{MembersLabels, ItemLabels, ModuleItemsLabels, Labelling, IsLawful}
 use Rattle.pc_module_rules.specs.FlowsOfExpressions.{CodedFlow, coded_at, coded_in}
 use Rattle.pc_module_rules.specs.FlowsOfStatements.{coded_in_suite}
 
 -- the flows in each item, one after another
-abbrev pub flows_in_each : ((i : Item) → ItemLabels i → List CodedFlow) → (items : List Item) → ItemsLabels items
+abbrev pub flows_in_each : ((i : Item) → ItemLabels i → List CodedFlow) → (items : List Item) → ModuleItemsLabels items
     → List CodedFlow
 flows_in_each flows [] labels = []
 flows_in_each flows (i ∷ rest) labels = flows i labels.first ++ flows_in_each flows rest labels.rest

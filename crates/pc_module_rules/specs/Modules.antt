@@ -152,9 +152,9 @@ ItemLabels (class_item p c) = MembersLabels c.members
 ItemLabels (def_item p f) = FunctionLabels f
 
 -- the labels of the items of a module, one after another
-abbrev pub ItemsLabels : List Item → Type 0
-ItemsLabels [] = Unit {0}
-ItemsLabels (i ∷ rest) = record { first : ItemLabels i; rest : ItemsLabels rest }
+abbrev pub ModuleItemsLabels : List Item → Type 0
+ModuleItemsLabels [] = Unit {0}
+ModuleItemsLabels (i ∷ rest) = record { first : ItemLabels i; rest : ModuleItemsLabels rest }
 
 -- the type of an item that is a constant, none for a class or a function
 abbrev pub item_constants : Module → (i : Item) → ItemLabels i → List Tree
@@ -163,7 +163,7 @@ item_constants m (class_item p c) labels = []
 item_constants m (def_item p f) labels = []
 
 -- the types of the constants among items, in text order
-abbrev pub constant_types : Module → (items : List Item) → ItemsLabels items → List Tree
+abbrev pub constant_types : Module → (items : List Item) → ModuleItemsLabels items → List Tree
 constant_types m [] labels = []
 constant_types m (i ∷ rest) labels = item_constants m i labels.first ++ constant_types m rest labels.rest
 
@@ -213,7 +213,7 @@ LawfulItem m constants b (class_item p c) labels =
 LawfulItem m constants b (def_item p f) labels = LawfulFunction m constants (owners.Func b.functions) f labels
 
 -- the labels of items are lawful, each in the state before it
-abbrev pub LawfulModuleItems : Module → (constants : List Tree) → BeforeItem → (items : List Item) → ItemsLabels items
+abbrev pub LawfulModuleItems : Module → (constants : List Tree) → BeforeItem → (items : List Item) → ModuleItemsLabels items
     → Type 0
 LawfulModuleItems m constants b [] labels = Unit {0}
 LawfulModuleItems m constants b (i ∷ rest) labels = LawfulItem m constants b i labels.first
@@ -227,17 +227,17 @@ ItemFinds m constants b (class_item p c) labels f = MembersFind m constants b.cl
 ItemFinds m constants b (def_item p d) labels f = FunctionFinds m constants (owners.Func b.functions) d labels f
 
 -- the findings in items, each in the state before it
-abbrev pub ItemsFind : Module → (constants : List Tree) → BeforeItem → (items : List Item) → ItemsLabels items → Finding
+abbrev pub ModuleItemsFind : Module → (constants : List Tree) → BeforeItem → (items : List Item) → ModuleItemsLabels items → Finding
     → Type 0
-ItemsFind m constants b [] labels f = ⊥
-ItemsFind m constants b (i ∷ rest) labels f = ItemFinds m constants b i labels.first f
-    ⊎ ItemsFind m constants (before_next m b i labels.first) rest labels.rest f
+ModuleItemsFind m constants b [] labels f = ⊥
+ModuleItemsFind m constants b (i ∷ rest) labels f = ItemFinds m constants b i labels.first f
+    ⊎ ModuleItemsFind m constants (before_next m b i labels.first) rest labels.rest f
 
 -- ---- the module
 
 -- a labelling of a module
 abbrev pub Labelling : Module → Type 0
-Labelling m = ItemsLabels m.items
+Labelling m = ModuleItemsLabels m.items
 
 -- a labelling is lawful if each node follows its own rule
 abbrev pub IsLawful : (m : Module) → Labelling m → Type 0
@@ -250,7 +250,7 @@ pub record HasLabelling (m : Module) : Type 0 where
 
 -- the findings under the labels of a module, with those of scope analysis
 abbrev pub LabelsSay : (m : Module) → Labelling m → Finding → Type 0
-LabelsSay m labels f = ItemsFind m (constant_types m m.items labels) nothing_before m.items labels f
+LabelsSay m labels f = ModuleItemsFind m (constant_types m m.items labels) nothing_before m.items labels f
 
 -- the findings under the labels of a module that scope analysis does not report
 pub record LabelsFind (m : Module) (labels : Labelling m) (f : Finding) : Type 0 where

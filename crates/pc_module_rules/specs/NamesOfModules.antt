@@ -12,7 +12,7 @@ use Rattle.pc_class.specs.Bases.{bases_of}
 use Rattle.pc_class.specs.Facts.{typed_parameter, return_type}
 use Rattle.pc_rules.specs.Labels.{type_of}
 use Rattle.pc_rules.specs.Signatures.{constant_type}
-use Rattle.pc_module_rules.specs.Modules.{FunctionLabels, MembersLabels, ItemLabels, ItemsLabels, Labelling}
+use Rattle.pc_module_rules.specs.Modules.{FunctionLabels, MembersLabels, ItemLabels, ModuleItemsLabels, Labelling}
 use Rattle.pc_module_rules.specs.NamesOfStatements.{NameAt, names_in_suite}
 
 module _ (m : Module) where
@@ -64,7 +64,7 @@ module _ (m : Module) where
   names_in_item (def_item p f) labels = []
 
   -- the names of the constants among items
-  abbrev pub names_of_constants : (items : List Item) → ItemsLabels items → List NameAt
+  abbrev pub names_of_constants : (items : List Item) → ModuleItemsLabels items → List NameAt
   names_of_constants [] labels = []
   names_of_constants (i ∷ rest) labels = names_in_item i labels.first ++ names_of_constants rest labels.rest
 
@@ -82,7 +82,7 @@ module _ (m : Module) where
       ++ names_in_methods class (suc number) rest labels.rest
 
   -- the names bound in the bodies of items, after these numbers of classes and functions
-  abbrev pub names_in_bodies : (classes functions : ℕ) → (items : List Item) → ItemsLabels items → List NameAt
+  abbrev pub names_in_bodies : (classes functions : ℕ) → (items : List Item) → ModuleItemsLabels items → List NameAt
   names_in_bodies classes functions [] labels = []
   names_in_bodies classes functions (constant_item p c ∷ rest) labels =
       names_in_bodies classes functions rest labels.rest

@@ -9,7 +9,7 @@ use Rattle.pc_annotations.specs.Annotations.{AnnFinds, OptionAnnFinds}
 use Rattle.pc_class.specs.Bases.{bases_of}
 use Rattle.pc_rules.specs.Labels.{Finds, IsFlowAt}
 use Rattle.pc_rules.specs.Signatures.{DefaultFinds, ParamsLabels, ParamsFind}
-use Rattle.pc_module_rules.specs.Modules.{MembersLabels, ItemLabels, ItemsLabels, Labelling}
+use Rattle.pc_module_rules.specs.Modules.{MembersLabels, ItemLabels, ModuleItemsLabels, Labelling}
 
 module _ (m : Module) where
   -- the findings in the signature of a function: in its annotations, and at its defaults
@@ -30,7 +30,7 @@ module _ (m : Module) where
   FunctionSays (def_item p d) labels f = SignatureSays d labels.params f
 
   -- the findings in the signatures of the functions among items
-  abbrev pub FunctionsSay : (items : List Item) → ItemsLabels items → Finding → Type 0
+  abbrev pub FunctionsSay : (items : List Item) → ModuleItemsLabels items → Finding → Type 0
   FunctionsSay [] labels f = ⊥
   FunctionsSay (i ∷ rest) labels f = FunctionSays i labels.first f ⊎ FunctionsSay rest labels.rest f
 
@@ -43,7 +43,7 @@ module _ (m : Module) where
   ItemSays (def_item p d) labels f = ⊥
 
   -- the findings of the constants and classes among items
-  abbrev pub ItemsSay : (items : List Item) → ItemsLabels items → Finding → Type 0
+  abbrev pub ItemsSay : (items : List Item) → ModuleItemsLabels items → Finding → Type 0
   ItemsSay [] labels f = ⊥
   ItemsSay (i ∷ rest) labels f = ItemSays i labels.first f ⊎ ItemsSay rest labels.rest f
 

@@ -5,7 +5,7 @@ use Rattle.std.specs.Prelude.{List, [], ◌∷◌, ◌++◌}
 use Rattle.pc_source.specs.declared.place.Place.{Place}
 use Rattle.pc_tree.specs.Tree.{Member, field_member, method_member, Item, constant_item, class_item, def_item, Module}
 use Rattle.pc_types.specs.Tree.{Tree}
-use Rattle.pc_module_rules.specs.Modules.{MembersLabels, ItemLabels, ItemsLabels, Labelling}
+use Rattle.pc_module_rules.specs.Modules.{MembersLabels, ItemLabels, ModuleItemsLabels, Labelling}
 use Rattle.pc_module_rules.specs.TypesOfExpressions.{TypeAt, types_in}
 use Rattle.pc_module_rules.specs.TypesOfStatements.{types_in_suite}
 
@@ -29,7 +29,7 @@ types_in_body (class_item p c) labels = types_in_methods c.members labels
 types_in_body (def_item p f) labels = types_in_suite f.body labels.body
 
 -- the types in each item, one after another
-abbrev pub types_in_each : ((i : Item) → ItemLabels i → List TypeAt) → (items : List Item) → ItemsLabels items
+abbrev pub types_in_each : ((i : Item) → ItemLabels i → List TypeAt) → (items : List Item) → ModuleItemsLabels items
     → List TypeAt
 types_in_each types [] labels = []
 types_in_each types (i ∷ rest) labels = types i labels.first ++ types_in_each types rest labels.rest

@@ -47,29 +47,29 @@ abbrev pub findings_of : List Note → List Finding
 findings_of notes = flat_map finding_in notes
 
 -- the type that a note shows, if it shows one
-abbrev pub type_in : Note → List (Place × Tree)
-type_in (told f flow) = []
-type_in (typed true p t) = (p, t) ∷ []
-type_in (typed false p t) = []
-type_in (named p d c) = []
+abbrev pub shown_type : Note → List (Place × Tree)
+shown_type (told f flow) = []
+shown_type (typed true p t) = (p, t) ∷ []
+shown_type (typed false p t) = []
+shown_type (named p d c) = []
 
 -- the types that notes show
 abbrev pub types_of : List Note → List (Place × Tree)
-types_of notes = flat_map type_in notes
+types_of notes = flat_map shown_type notes
 
 -- the meaning of a shown type, with its place
 abbrev pub type_shown : Place × Bor BoxType → Place × Tree
 type_shown t = (t.0, tree_of t.1.now)
 
 -- the bound name of a note, if it has one
-abbrev pub name_in : Note → List (Place × Tree × Option Tree)
-name_in (told f flow) = []
-name_in (typed shown p t) = []
-name_in (named p d c) = (p, d, c) ∷ []
+abbrev pub name_of_note : Note → List (Place × Tree × Option Tree)
+name_of_note (told f flow) = []
+name_of_note (typed shown p t) = []
+name_of_note (named p d c) = (p, d, c) ∷ []
 
 -- the bound names of notes
-abbrev pub names_of : List Note → List (Place × Tree × Option Tree)
-names_of notes = flat_map name_in notes
+abbrev pub names_of_notes : List Note → List (Place × Tree × Option Tree)
+names_of_notes notes = flat_map name_of_note notes
 
 -- the meaning of the types of a bound name, with its place
 abbrev pub name_shown : Place × Bor BoundTypes → Place × Tree × Option Tree

@@ -63,5 +63,5 @@ abbrev pub IsNamed : Module → NamedType → Type 0
 IsNamed m named = rc_str_bytes named.text ≡ type_text m (tree_of (rc_value named.ty))
 
 -- each type of a map, which is looked up by its mark, has its text
-abbrev pub AreNamed : Module → BTreeMap ℕ NamedType → Type 0
-AreNamed m known = (mark : ℕ) → IfSome (get nat_cmp known mark) (IsNamed m)
+abbrev pub HaveTexts : Module → BTreeMap ℕ NamedType → Type 0
+HaveTexts m known = (mark : ℕ) → IfSome (get nat_cmp known mark) (IsNamed m)

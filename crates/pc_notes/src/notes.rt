@@ -13,7 +13,7 @@ ghost use Rattle.pc_annotations.specs.Named.{named_module};
 ghost use Rattle.pc_types.specs.Store.{KeepsTypes};
 ghost use Rattle.pc_notes.specs.Notes.{IsGivenEntry, Note, note_of, notes_of, plain_note, flow_note, typed};
 ghost use Rattle.pc_notes.specs.Notes.{is_same_place, is_same_code, entry_place, kept_flow, flow_noted, ExplainsFlow};
-ghost use Rattle.pc_notes.specs.Notes.{findings_of, types_of, type_shown, IsGivenShown, named, names_of};
+ghost use Rattle.pc_notes.specs.Notes.{findings_of, types_of, type_shown, IsGivenShown, named, names_of_notes};
 ghost use Rattle.pc_notes.specs.Notes.{name_shown, AreGivenBound, type_noted, pair_shown, flow_types};
 ghost use Rattle.pc_notes.specs.declared.notes.NoteEntry.{NoteEntry as Kept};
 ghost use Rattle.pc_notes.specs.Texts.{AreFlowTexts, HasFirstFlows, HasGivenFlows, place_cmp};
@@ -263,7 +263,7 @@ impl Notes {
 
     /// Returns the bound names, each with its place and its types, in their order.
     pub fn names(&self, alloc: Global) -> Result<Vec<(Place, &BoundTypes)>, OutOfMemory>
-        ensures names { IfOk result (λ v. map name_shown v.items ≡ names_of (notes_of self.now)) }
+        ensures names { IfOk result (λ v. map name_shown v.items ≡ names_of_notes (notes_of self.now)) }
         ensures given { IfOk result (λ v. All AreGivenBound v.items) }
     {
         let mut names = Vec::new(alloc);

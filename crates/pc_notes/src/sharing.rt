@@ -6,7 +6,7 @@ ghost use Rattle.pc_types.specs.Boxed.{IsGiven};
 ghost use Rattle.pc_annotations.specs.Named.{named_module};
 ghost use Rattle.pc_annotations.specs.Text.{type_text};
 ghost use Rattle.pc_notes.specs.Notes.{IsGivenType, shared_tree};
-ghost use Rattle.pc_notes.specs.Texts.{AreNamed};
+ghost use Rattle.pc_notes.specs.Texts.{HaveTexts};
 
 use pc_annotations::{ClassNames, named_text};
 use pc_intern::is_alike;
@@ -79,9 +79,9 @@ pub(crate) fn shared_text(
     shared: &SharedType,
 ) -> Result<RcStr, OutOfMemory>
     requires given { IsGivenType shared.now }
-    requires named { AreNamed (named_module names.now) known.old }
+    requires named { HaveTexts (named_module names.now) known.old }
     ensures text { IfOk result (λ t. rc_str_bytes t ≡ type_text (named_module names.now) (shared_tree shared.now)) }
-    ensures named { OnOk result (AreNamed (named_module names.now) known.new) }
+    ensures named { OnOk result (HaveTexts (named_module names.now) known.new) }
 {
     if let Some(named) = known.get(&shared.mark) {
         if is_alike(&named.ty, &shared.ty) {

@@ -8,12 +8,12 @@ use Rattle.pc_types.specs.Tree.{Tree, Any}
 use Rattle.pc_types.specs.Below.{Bases}
 use Rattle.pc_flow.specs.Environment.{join_all}
 use Rattle.pc_flow.proofs.Rest.{mapped_rest, mapped_end}
-use Rattle.pc_rules.specs.Operations.{Offer, Label, suits, clean, has_error, found_of, offers_label}
+use Rattle.pc_rules.specs.Operations.{Offer, Label, supported, clean, has_error, found_of, offers_label}
 
 module _ {Ty : Type 0} (tree : Ty → Tree) where
   -- an attribute that has this type on a member
   abbrev pub read : Ty → Offer
-  read t = suits (tree t) []
+  read t = supported (tree t) []
 
   module _ (on : Tree → Offer) (members : List Ty) where
     -- so many members have these types; the others are to come

@@ -15,7 +15,7 @@ use Rattle.pc_class.specs.Tables.{ClassEntry, HasEntry, HasEntries, HasParameter
 use Rattle.pc_class.specs.declared.table.Parameter.{Parameter as RustParameter}
 use Rattle.pc_flow.specs.Environment.{join_all}
 use Rattle.pc_operations.specs.JudgedOperations.{item_at}
-use Rattle.pc_rules.specs.Operations.{Offer, suits, unsure, suits_not, negative_member, attribute_found}
+use Rattle.pc_rules.specs.Operations.{Offer, supported, unsure, suits_not, negative_member, attribute_found}
 use Rattle.pc_rules.specs.Operations.{attribute_member, index_member, iterate_member, contain_member, length_member}
 
 -- a part of a type
@@ -23,8 +23,8 @@ abbrev pub part_at : List Tree → ℕ → Tree
 part_at ps i = unwrap_or (slice_get ps i) Any
 
 abbrev pub negative_at : Head → Offer
-negative_at heads.Int = suits Int []
-negative_at heads.Bool = suits Int []
+negative_at heads.Int = supported Int []
+negative_at heads.Bool = supported Int []
 negative_at heads.Any = unsure A2 Any
 negative_at _ = suits_not E13
 
@@ -35,10 +35,10 @@ negative_is Any = refl
 negative_is _ = refl
 
 abbrev pub length_at : Head → Offer
-length_at heads.Str = suits Int []
-length_at heads.List = suits Int []
-length_at heads.Dict = suits Int []
-length_at (heads.Tuple n) = suits Int []
+length_at heads.Str = supported Int []
+length_at heads.List = supported Int []
+length_at heads.Dict = supported Int []
+length_at (heads.Tuple n) = supported Int []
 length_at heads.Any = unsure A6 Int
 length_at _ = suits_not E27
 
@@ -47,10 +47,10 @@ length_is Any = refl
 length_is _ = refl
 
 abbrev pub iterate_at : Bases → Head → List Tree → Offer
-iterate_at bases heads.List ps = suits (part_at ps 0) []
-iterate_at bases heads.Dict ps = suits (part_at ps 0) []
-iterate_at bases heads.Str ps = suits Str []
-iterate_at bases (heads.Tuple n) ps = suits (join_all bases ps) []
+iterate_at bases heads.List ps = supported (part_at ps 0) []
+iterate_at bases heads.Dict ps = supported (part_at ps 0) []
+iterate_at bases heads.Str ps = supported Str []
+iterate_at bases (heads.Tuple n) ps = supported (join_all bases ps) []
 iterate_at bases heads.Any ps = unsure A5 Any
 iterate_at bases _ ps = suits_not E18
 
@@ -59,10 +59,10 @@ iterate_is bases Any = refl
 iterate_is bases _ = refl
 
 abbrev pub contain_at : Head → Offer
-contain_at heads.Str = suits Bool (Str ∷ [])
-contain_at heads.Dict = suits Bool (Union Int (Union Str NoneType) ∷ [])
-contain_at heads.List = suits Bool []
-contain_at (heads.Tuple n) = suits Bool []
+contain_at heads.Str = supported Bool (Str ∷ [])
+contain_at heads.Dict = supported Bool (Union Int (Union Str NoneType) ∷ [])
+contain_at heads.List = supported Bool []
+contain_at (heads.Tuple n) = supported Bool []
 contain_at heads.Any = unsure A2 Bool
 contain_at _ = suits_not E19
 
@@ -71,15 +71,15 @@ contain_is Any = refl
 contain_is _ = refl
 
 abbrev pub index_at : Bases → Option ℕ → Head → List Tree → Offer
-index_at bases literal heads.List ps = suits (part_at ps 0) (Int ∷ [])
-index_at bases literal heads.Str ps = suits Str (Int ∷ [])
-index_at bases literal (heads.Tuple n) ps = suits (item_at bases literal ps) (Int ∷ [])
-index_at bases literal heads.Dict ps = suits (part_at ps 1) (part_at ps 0 ∷ [])
+index_at bases literal heads.List ps = supported (part_at ps 0) (Int ∷ [])
+index_at bases literal heads.Str ps = supported Str (Int ∷ [])
+index_at bases literal (heads.Tuple n) ps = supported (item_at bases literal ps) (Int ∷ [])
+index_at bases literal heads.Dict ps = supported (part_at ps 1) (part_at ps 0 ∷ [])
 index_at bases literal heads.Any ps = unsure A3 Any
 index_at bases literal _ ps = suits_not E16
 
 tuple_index : (bases : Bases) (literal : Option ℕ) (ts : Trees) → index_member bases literal (TupleOf ts)
-    ≡ suits (item_at bases literal (list_of_trees ts)) (Int ∷ [])
+    ≡ supported (item_at bases literal (list_of_trees ts)) (Int ∷ [])
 tuple_index bases None ts = refl
 tuple_index bases (Some i) ts = refl
 

@@ -12,7 +12,7 @@ use Rattle.pc_types.specs.Tree.{Tree, Any, Never}
 use Rattle.pc_types.specs.Below.{Bases}
 use Rattle.pc_flow.specs.Environment.{join_or_object, join_onto, join_all}
 use Rattle.pc_rules.specs.Operations.{Kind, whole_kind, text_kind, kind_of, kind_taken, Offer, clean, in_error}
-use Rattle.pc_rules.specs.Operations.{has_error, suits, found_of, offers_label, row_of_kinds, pair_found, pair_offers}
+use Rattle.pc_rules.specs.Operations.{has_error, supported, found_of, offers_label, row_of_kinds, pair_found, pair_offers}
 use Rattle.pc_rules.specs.Computed.Findings.{once_onto, once, brief}
 use Rattle.pc_operations.specs.Internal.OperandPairs.{meet, common_onto, common, kind_label}
 
@@ -211,14 +211,14 @@ module _ (takes : Kind → Test) (gives : Kind → Tree) where
   -- each offer is the same
   abbrev AllSuit : Kind → List Offer → Type 0
   AllSuit k [] = Unit {0}
-  AllSuit k (o ∷ os) = (o ≡ suits (gives k) []) × AllSuit k os
+  AllSuit k (o ∷ os) = (o ≡ supported (gives k) []) × AllSuit k os
 
   suit_append : (k : Kind) (os ps : List Offer) → AllSuit k os → AllSuit k ps → AllSuit k (os ++ ps)
   suit_append k [] ps h g = g
   suit_append k (o ∷ os) ps h g = (h.0, suit_append k os ps h.1 g)
 
   suit_pair : (k : Kind) (c d : Option Kind) → takes k ≡ true → c ≡ Some k → d ≡ Some k
-      → pair_found (row_of_kinds takes gives c d) ≡ suits (gives k) []
+      → pair_found (row_of_kinds takes gives c d) ≡ supported (gives k) []
   suit_pair k c d t e f = ap pair_found (row_is c d ∙ ap row_at ((λ j. meet (e j) (f j)) ∙ meet_same k))
       ∙ ap (λ (b : Test). pair_found (if b then Some (gives k) else None)) t
 

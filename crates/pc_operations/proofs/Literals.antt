@@ -10,7 +10,7 @@ use Rattle.pc_types.specs.Below.{Bases}
 use Rattle.pc_types.specs.Shape.{nodes, nodes_of, node_limit, list_of_trees}
 use Rattle.pc_types.proofs.Nodes.{some_node}
 use Rattle.pc_flow.specs.Environment.{join_all}
-use Rattle.pc_rules.specs.Operations.{suits, index_member}
+use Rattle.pc_rules.specs.Operations.{supported, index_member}
 
 parts_below : (ts : Trees) → length (list_of_trees ts) ≤ nodes_of ts
 parts_below end = omega arith
@@ -22,7 +22,7 @@ past_parts ts n h le = slice_get_past (list_of_trees ts) n (omega (arith, parts_
 
 past_tuple : (bases : Bases) (ts : Trees) (n : ℕ) → nodes (TupleOf ts) ≤ node_limit → node_limit ≤ n
     → index_member bases None (TupleOf ts) ≡ index_member bases (Some n) (TupleOf ts)
-past_tuple bases ts n h le = ap (λ (o : Option Tree). suits (unwrap_or o (join_all bases (list_of_trees ts)))
+past_tuple bases ts n h le = ap (λ (o : Option Tree). supported (unwrap_or o (join_all bases (list_of_trees ts)))
     (Int ∷ [])) (sym (past_parts ts n h le))
 
 -- a number of 256 or more stands for none

@@ -4,7 +4,7 @@
 ghost use Rattle.std.specs.Prelude.{◌≡◌, IfOk, OnOk};
 ghost use Rattle.pc_tree.specs.Tree.{expr_of};
 ghost use Rattle.pc_tree.specs.Depth.{place_of};
-ghost use Rattle.pc_rules.specs.Computed.Checkers.{Finds, CheckerKept, IsLabel};
+ghost use Rattle.pc_rules.specs.Computed.Checkers.{AddsNotes, CheckerKept, IsLabel};
 ghost use Rattle.pc_rules.specs.Operations.{Label as LabelOf};
 ghost use Rattle.pc_rules.specs.Lawful.{compare_label, compare_types};
 ghost use Rattle.pc_rules.specs.Computed.Expressions.{flows_of};
@@ -33,7 +33,7 @@ pub fn label_comparison<S: TypeStore>(
         (λ l. IsLabel S.TypeStore checker.new l
         (compare_label parents.now operator (S.tree label.now.ty) (S.tree right.now))) }
     ensures found { (m : LabelOf) → label_with S.tree label.now ≡ brief m
-        → OnOk result (Finds checker.old checker.new (flows_at (place_of (expr_of left.now))
+        → OnOk result (AddsNotes checker.old checker.new (flows_at (place_of (expr_of left.now))
         (flows_of parents.now m (compare_types operator (S.tree right.now))))) }
     ensures goes_on { CheckerKept S.TypeStore checker.old checker.new }
 {

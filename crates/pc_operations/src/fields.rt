@@ -6,7 +6,7 @@ ghost use Rattle.pc_types.specs.Shape.{members};
 ghost use Rattle.pc_types.specs.Store.{KeepsTypes};
 ghost use Rattle.pc_class.specs.Tables.{HasEntries, classes_with};
 ghost use Rattle.pc_flow.specs.Environment.{join_all};
-ghost use Rattle.pc_rules.specs.Operations.{attribute_member, clean, suits};
+ghost use Rattle.pc_rules.specs.Operations.{attribute_member, clean, supported};
 ghost use Rattle.pc_rules.specs.Computed.Standing.{MeansLabel};
 
 use crate::kinds::is_single;
@@ -29,7 +29,7 @@ fn field_type<S: TypeStore>(
     requires classes { HasEntries (S.has store.now) classes.now }
     ensures held { IfOk result (λ o. IfSome o (S.has store.now)) }
     ensures value { IfOk result (λ o. IfSome o (λ t.
-        suits (S.tree t) [] ≡ attribute_member (classes_with S.tree classes.now) name.now (S.tree member.now))) }
+        supported (S.tree t) [] ≡ attribute_member (classes_with S.tree classes.now) name.now (S.tree member.now))) }
 {
     let Head::Class(class) = store.head(member) else {
         return Ok(None);
@@ -51,7 +51,7 @@ pub(crate) fn field_types<S: TypeStore>(
     requires ty { S.has store.now ty.now }
     requires classes { HasEntries (S.has store.now) classes.now }
     ensures held { IfOk result (λ o. IfSome o (λ ts. All (S.has store.now) ts.items)) }
-    ensures value { IfOk result (λ o. IfSome o (λ ts. map (λ t. suits (S.tree t) []) ts.items
+    ensures value { IfOk result (λ o. IfSome o (λ ts. map (λ t. supported (S.tree t) []) ts.items
         ≡ map (attribute_member (classes_with S.tree classes.now) name.now) (members (S.tree ty.now)))) }
 {
     if is_single(store, ty) {

@@ -9,7 +9,7 @@ ghost use Rattle.pc_types.specs.Shape.{members};
 ghost use Rattle.pc_types.specs.Store.{KeepsTypes};
 ghost use Rattle.pc_class.specs.Tables.{classes_with, HasEntries};
 ghost use Rattle.pc_flow.specs.Environment.{join_or_object};
-ghost use Rattle.pc_rules.specs.Computed.Checkers.{Finds, CheckerKept, IsLabel};
+ghost use Rattle.pc_rules.specs.Computed.Checkers.{AddsNotes, CheckerKept, IsLabel};
 ghost use Rattle.pc_rules.specs.Operations.{Label as LabelOf, clean, offers_label, operand_types, negative_member};
 ghost use Rattle.pc_rules.specs.Operations.{attribute_member};
 ghost use Rattle.pc_rules.specs.Operations.{index_member};
@@ -17,6 +17,7 @@ ghost use Rattle.pc_rules.specs.Lawful.{int_literal};
 ghost use Rattle.pc_rules.specs.Computed.Expressions.{flows_of};
 ghost use Rattle.pc_rules.specs.Computed.Findings.{brief, flows_at};
 ghost use Rattle.pc_rules.specs.Computed.Standing.{label_with, MeansLabel};
+ghost use Rattle.pc_rules.specs.Computed.ModuleParents.{class_parents};
 
 use crate::fields::{field_types, label_of_fields};
 use crate::offers::{Operation, literal_index, member_offers, offers_label, operand_types};
@@ -79,7 +80,7 @@ pub fn label_negative<S: TypeStore>(
     requires classes { HasEntries (S.has store.old) setting.now.globals.now.classes.now }
     ensures value { IfOk result
         (λ l. MeansLabel S.has S.tree store.new l
-        (offers_label setting.now.globals.now.outline.now.parents.now
+        (offers_label (class_parents setting.now.globals.now)
         (map negative_member (members (S.tree operand.now))))) }
     ensures kept { KeepsTypes S.has store.old store.new }
 {
@@ -107,7 +108,7 @@ pub fn label_attribute<S: TypeStore>(
     requires classes { HasEntries (S.has store.old) setting.now.globals.now.classes.now }
     ensures value { IfOk result
         (λ l. MeansLabel S.has S.tree store.new l
-        (offers_label setting.now.globals.now.outline.now.parents.now
+        (offers_label (class_parents setting.now.globals.now)
         (map (attribute_member (classes_with S.tree setting.now.globals.now.classes.now) (name_of field.now).text)
         (members (S.tree object.now))))) }
     ensures kept { KeepsTypes S.has store.old store.new }
@@ -137,13 +138,13 @@ pub fn label_index<S: TypeStore>(
     requires classes { HasEntries (S.has checker.old.store.now) setting.now.globals.now.classes.now }
     ensures value { IfOk result
         (λ l. IsLabel S.TypeStore checker.new l
-        (offers_label setting.now.globals.now.outline.now.parents.now
-        (map (index_member setting.now.globals.now.outline.now.parents.now (int_literal (expr_of key.now)))
+        (offers_label (class_parents setting.now.globals.now)
+        (map (index_member (class_parents setting.now.globals.now) (int_literal (expr_of key.now)))
         (members (S.tree object.now))))) }
     ensures found { (m : LabelOf) → label_with S.tree label.now ≡ brief m
-        → OnOk result (Finds checker.old checker.new (flows_at (place_of (expr_of key.now))
-        (flows_of setting.now.globals.now.outline.now.parents.now m
-        (operand_types (map (index_member setting.now.globals.now.outline.now.parents.now
+        → OnOk result (AddsNotes checker.old checker.new (flows_at (place_of (expr_of key.now))
+        (flows_of (class_parents setting.now.globals.now) m
+        (operand_types (map (index_member (class_parents setting.now.globals.now)
         (int_literal (expr_of key.now)))
         (members (S.tree object.now))))))) }
     ensures goes_on { CheckerKept S.TypeStore checker.old checker.new }

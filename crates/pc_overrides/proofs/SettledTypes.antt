@@ -5,7 +5,7 @@ use Rattle.std.specs.Prelude.{IsTrue}
 use Rattle.pc_types.specs.Tree.{Tree, Trees, Any, Object, Never, ListOf, TupleOf}
 use Rattle.pc_types.specs.Below.{Bases, Below, AreSmaller, Static, through}
 use Rattle.pc_types.specs.Below.{never as below_never, object as below_object}
-use Rattle.pc_types.specs.Assignable.{IsPlain, ArePlain, Fills, FillsEach, Assignable}
+use Rattle.pc_types.specs.Assignable.{IsPlain, ArePlain, Materializes, FillsEach, Assignable}
 use Rattle.pc_types.specs.Assignable as fill
 use Rattle.pc_types.specs.Normal.{IsNormal}
 use Rattle.pc_types.proofs.Consistent.{static_assignable}
@@ -18,7 +18,7 @@ use Rattle.pc_overrides.specs.Internal.Standing.{Settles, plain, unknown, same a
 -- ---- types without Any
 
 mutual
-  fills_plain : {t u : Tree} → Fills t u → IsPlain t → u ≡ t
+  fills_plain : {t u : Tree} → Materializes t u → IsPlain t → u ≡ t
   fills_plain (fill.any p) h = absurd h
   fills_plain fill.object h = refl
   fills_plain fill.never h = refl
@@ -56,7 +56,7 @@ module _ (bases : Bases) where
         filled_left = a.filled_left;
         filled_right = a.filled_right;
         fills_left = a.fills_left;
-        fills_right = subst (Fills Any) (sym (fills_plain a.fills_right tt)) (fill.any tt);
+        fills_right = subst (Materializes Any) (sym (fills_plain a.fills_right tt)) (fill.any tt);
         is_below = a.is_below;
       })
   settled_from z new old (alike e) s h = subst (Assignable bases z) e h
@@ -77,7 +77,7 @@ module _ (bases : Bases) where
       let a = static_assignable bases Never z below_never in subst (λ t. Assignable bases t z) (sym e) (record {
         filled_left = a.filled_left;
         filled_right = a.filled_right;
-        fills_left = subst (Fills Any) (sym (fills_plain a.fills_left tt)) (fill.any tt);
+        fills_left = subst (Materializes Any) (sym (fills_plain a.fills_left tt)) (fill.any tt);
         fills_right = a.fills_right;
         is_below = a.is_below;
       })

@@ -12,26 +12,26 @@ use Rattle.pc_tree.specs.declared.tree.Name.{Name as RustName}
 use Rattle.pc_tree.specs.Tree.{Name, name_of, Ann, named, none_type, applied, applied_empty, union, Anns, no_anns}
 use Rattle.pc_tree.specs.Tree.{more_anns, ann_of, anns_of}
 use Rattle.pc_tree.specs.Depth.{depth_of_ann, depth_over_anns, place_of_ann}
-use Rattle.pc_grammar.specs.Grammar.{span, name_at}
+use Rattle.pc_grammar.specs.Grammar.{span, name_of_token}
 use Rattle.pc_grammar.specs.Machine.Finishing.{add_ann}
 use Rattle.pc_reader.proofs.Building.{span_is, starts_one, ends_one, name_ends}
 use Rattle.pc_parse.specs.declared.annotation.Annotation.{Annotation}
 use Rattle.pc_parse.specs.declared.annotation.Annotations.{Annotations}
-use Rattle.pc_parse.specs.Internal.Annotations.{KeepsAnn, KeepsAnns, MakesAnn, anns_in}
+use Rattle.pc_parse.specs.Internal.Annotations.{KeepsAnn, KeepsAnns, MakesAnn, trees_of_anns}
 
-rows : {n : _} (k : Row_of-Ann n) → anns_of k ≡ anns_in (items-the_row-Ann n k)
+rows : {n : _} (k : Row_of-Ann n) → anns_of k ≡ trees_of_anns (items-the_row-Ann n k)
 rows end_of-Ann = refl
 rows (more_of-Ann a rest) = ap (λ z. more_anns (ann_of a) z) (rows rest)
 
 in_applied : (p : Place) (head : RustName) (v : Vec RustAnn Global) → ann_of (rust.Apply p head v)
-    ≡ applied p (name_of head) (anns_in v.items)
+    ≡ applied p (name_of head) (trees_of_anns v.items)
 in_applied p head v = ap (λ z. applied p (name_of head) z) (rows (Block.hidden-the_row-Ann-0 v)
-    ∙ ap anns_in (items_hidden-the_row-Ann-0 v))
+    ∙ ap trees_of_anns (items_hidden-the_row-Ann-0 v))
 
-in_union : (p : Place) (v : Vec RustAnn Global) → ann_of (rust.Union p v) ≡ union p (anns_in v.items)
-in_union p v = ap (λ z. union p z) (rows (Block.hidden-the_row-Ann-0 v) ∙ ap anns_in (items_hidden-the_row-Ann-0 v))
+in_union : (p : Place) (v : Vec RustAnn Global) → ann_of (rust.Union p v) ≡ union p (trees_of_anns v.items)
+in_union p v = ap (λ z. union p z) (rows (Block.hidden-the_row-Ann-0 v) ∙ ap trees_of_anns (items_hidden-the_row-Ann-0 v))
 
-push_anns : (xs : List RustAnn) (a : RustAnn) → anns_in (xs ++ (a ∷ [])) ≡ add_ann (anns_in xs) (ann_of a)
+push_anns : (xs : List RustAnn) (a : RustAnn) → trees_of_anns (xs ++ (a ∷ [])) ≡ add_ann (trees_of_anns xs) (ann_of a)
 push_anns [] a = refl
 push_anns (x ∷ xs) a = ap (λ z. more_anns (ann_of x) z) (push_anns xs a)
 
@@ -44,7 +44,7 @@ pub pushed : (i j : Annotations) (o : Annotation) (anns : Anns) (a : Ann) (ts : 
     → KeepsAnns i anns → KeepsAnn o a ts → KeepsAnns j (add_ann anns a)
 pushed i j o anns a ts e d ki ko = record {
   depth = let n = ki.depth in let m = ko.depth in omega (arith, add_depth anns a);
-  kept = λ h. ap anns_in e ∙ push_anns i.anns.items o.ann ∙ ap (λ z. add_ann z (ann_of o.ann)) (ki.kept (omega arith))
+  kept = λ h. ap trees_of_anns e ∙ push_anns i.anns.items o.ann ∙ ap (λ z. add_ann z (ann_of o.ann)) (ki.kept (omega arith))
       ∙ ap (λ z. add_ann anns z) (ko.kept (omega arith));
 }
 
@@ -77,8 +77,8 @@ pub empties : (head : RustName) (p : Place) → MakesAnn (record { ann = rust.Ap
 empties head p = made (record { ann = rust.ApplyEmpty p head; place = p; depth = 0 })
     (λ q. applied_empty q (name_of head)) 0 (λ q. refl) (λ q. refl) refl (λ h. refl)
 
-pub names : (n : RustName) (t : Lexeme) → name_of n ≡ name_at t
-    → KeepsAnn (record { ann = rust.Name n; place = n.place; depth = 0 }) (named (name_at t)) (t ∷ [])
+pub names : (n : RustName) (t : Lexeme) → name_of n ≡ name_of_token t
+    → KeepsAnn (record { ann = rust.Name n; place = n.place; depth = 0 }) (named (name_of_token t)) (t ∷ [])
 names n t e = record {
   starts = record { head = t; tail = []; is = refl; start = sym (ap (λ (z : Name). z.place.start) e) };
   ends = name_ends n t e;

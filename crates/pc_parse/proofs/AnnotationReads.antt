@@ -12,7 +12,7 @@ use Rattle.pc_tree.specs.declared.tree.Ann.TheVariants as rust
 use Rattle.pc_tree.specs.declared.tree.Name.{Name as RustName}
 use Rattle.pc_tree.specs.Tree.{Name, name_of, Ann, named, none_type, applied, union, Anns, no_anns, more_anns}
 use Rattle.pc_tree.specs.Depth.{whole_ann}
-use Rattle.pc_grammar.specs.Grammar.{span, name_at}
+use Rattle.pc_grammar.specs.Grammar.{span, name_of_token}
 use Rattle.pc_grammar.specs.Machine.{Reading, at, short, stop}
 use Rattle.pc_grammar.specs.Machine.States.{AnnStack, ann_whole, ann_inside, AnnotationPosition, State, on, part_due}
 use Rattle.pc_grammar.specs.Machine.States.{part_read, argument_due, empty_opened}
@@ -163,13 +163,13 @@ module _ {X I : Type 0} {text : X → List ℕ} {steps : I → Option (Result (T
     pub name_part : IsAhead (kind.Operator sign.LeftBracket) m.ahead ≡ false
         → GivesPart text steps can left a m (record { ann = rust.Name name; place = name.place; depth = 0 })
     name_part e = record {
-      tree = named (name_at (lexeme text n.token));
+      tree = named (name_of_token (lexeme text n.token));
       tokens = lexeme text n.token ∷ [];
       keeps = names name (lexeme text n.token) n.name;
       ready = n.takes.ready;
       later = n.takes.later;
       leads = λ parts before s x y. to_name n.takes parts before s n.is x
-          (alone text steps m (name_at (lexeme text n.token)) (lexeme text n.token ∷ []) parts before s e x y);
+          (alone text steps m (name_of_token (lexeme text n.token)) (lexeme text n.token ∷ []) parts before s e x y);
     }
 
     pub bracket_fails : {e : Fault} → Blames e (λ x. (r : Reading) → (m.ahead ≡ None → stop r ≡ short)
@@ -177,7 +177,7 @@ module _ {X I : Type 0} {text : X → List ℕ} {steps : I → Option (Result (T
         → Blames e (λ x. (parts : Anns) (before : List Lexeme) (s : AnnStack)
         → Came text steps a (at (part_due parts before s)) x)
     bracket_fails w = blame (λ x u. λ parts before s. to_name n.takes parts before s n.is x
-        (u (at (Rattle.pc_grammar.specs.Machine.States.part_named (name_at (lexeme text n.token))
+        (u (at (Rattle.pc_grammar.specs.Machine.States.part_named (name_of_token (lexeme text n.token))
         (lexeme text n.token ∷ []) parts before s)) (λ q. refl))) w
 
     pub applied_part : {d : Reader X I} {t : Token X} (b : Reader X I) → Takes text steps can left m d t
@@ -200,7 +200,7 @@ module _ {X I : Type 0} {text : X → List ℕ} {steps : I → Option (Result (T
           ready = x.ready;
           later = omega (arith, x.later, h.later, n.takes.later);
           leads = λ parts before s o' z. to_name n.takes parts before s n.is o'
-              (to_bracket h (name_at (lexeme text n.token)) (lexeme text n.token ∷ []) parts before s k o'
+              (to_bracket h (name_of_token (lexeme text n.token)) (lexeme text n.token ∷ []) parts before s k o'
               (subst (λ i. Came text steps d (at (argument_due i (lexeme text n.token ∷ lexeme text t ∷ []) parts before
               s)) o') n.name (y.leads parts before s o' z)));
         }
@@ -214,7 +214,7 @@ module _ {X I : Type 0} {text : X → List ℕ} {steps : I → Option (Result (T
               sym (ap (λ (z : Name). z.place.start) n.name);
         } in
         blame (λ o' w. λ parts before s. to_name n.takes parts before s n.is o'
-        (to_bracket h (name_at (lexeme text n.token)) (lexeme text n.token ∷ []) parts before s k o'
+        (to_bracket h (name_of_token (lexeme text n.token)) (lexeme text n.token ∷ []) parts before s k o'
         (subst (λ i. Came text steps d (at (argument_due i (lexeme text n.token ∷ lexeme text t ∷ []) parts before s))
         o') n.name (w (lexeme text n.token ∷ lexeme text t ∷ []) st parts before s)))) x
 

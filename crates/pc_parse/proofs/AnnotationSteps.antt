@@ -8,13 +8,13 @@ use Rattle.pc_token.specs.declared.token.Keyword.TheVariants as word
 use Rattle.pc_token.specs.declared.token.Operator.TheVariants as sign
 use Rattle.pc_token.specs.Lexeme.{Lexeme}
 use Rattle.pc_tree.specs.Tree.{Name, Ann, named, none_type, applied, Anns, no_anns}
-use Rattle.pc_grammar.specs.Grammar.{span, name_at}
-use Rattle.pc_grammar.specs.Machine.{at, turn}
+use Rattle.pc_grammar.specs.Grammar.{span, name_of_token}
+use Rattle.pc_grammar.specs.Machine.{at, transition}
 use Rattle.pc_grammar.specs.Machine.Kinds.{same_kind}
 use Rattle.pc_grammar.specs.Machine.States.{AnnStack, ann_inside, State, part_due, part_named, part_read, argument_due}
 use Rattle.pc_grammar.specs.Machine.States.{empty_opened, empty_closed, stuck, on}
 use Rattle.pc_grammar.specs.Machine.Finishing.{add_ann}
-use Rattle.pc_grammar.specs.Machine.Annotations.{whole_ann, ann_end, part_read_turn, part_turn}
+use Rattle.pc_grammar.specs.Machine.Annotations.{ann_of_parts, ann_end, part_read_turn, part_turn}
 use Rattle.pc_reader.specs.declared.reader.Reader.{Reader}
 use Rattle.pc_reader.specs.Reading.{IsAhead, lexeme, Onward, Takes, NeedsKind}
 use Rattle.pc_reader.proofs.Steps.{step_to, alike, needs, not_seen}
@@ -32,14 +32,14 @@ module _ {X I : Type 0} {text : X → List ℕ} {steps : I → Option (Result (T
       (at (part_read (none_type (span (lexeme text t ∷ []))) (lexeme text t ∷ []) parts before s))
   to_none parts before s e = step_to (part_due parts before s)
       (part_read (none_type (span (lexeme text t ∷ []))) (lexeme text t ∷ []) parts before s) h
-      (ap (turn (part_due parts before s) (lexeme text t)) e)
+      (ap (transition (part_due parts before s) (lexeme text t)) e)
 
   pub to_name : (parts : Anns) (before : List Lexeme) (s : AnnStack) → t.kind ≡ kind.Name
       → Onward text steps a b (at (part_due parts before s))
-      (at (part_named (name_at (lexeme text t)) (lexeme text t ∷ []) parts before s))
+      (at (part_named (name_of_token (lexeme text t)) (lexeme text t ∷ []) parts before s))
   to_name parts before s e = step_to (part_due parts before s)
-      (part_named (name_at (lexeme text t)) (lexeme text t ∷ []) parts before s) h
-      (ap (turn (part_due parts before s) (lexeme text t)) e)
+      (part_named (name_of_token (lexeme text t)) (lexeme text t ∷ []) parts before s) h
+      (ap (transition (part_due parts before s) (lexeme text t)) e)
 
   pub to_bracket : (n : Name) (us : List Lexeme) (parts : Anns) (before : List Lexeme) (s : AnnStack)
       → t.kind ≡ kind.Operator sign.LeftBracket
@@ -47,7 +47,7 @@ module _ {X I : Type 0} {text : X → List ℕ} {steps : I → Option (Result (T
       (at (argument_due n (us ++ (lexeme text t ∷ [])) parts before s))
   to_bracket n us parts before s e = step_to (part_named n us parts before s)
       (argument_due n (us ++ (lexeme text t ∷ [])) parts before s) h
-      (ap (turn (part_named n us parts before s) (lexeme text t)) e)
+      (ap (transition (part_named n us parts before s) (lexeme text t)) e)
 
   pub to_parenthesis : (n : Name) (us : List Lexeme) (parts : Anns) (before : List Lexeme) (s : AnnStack)
       → t.kind ≡ kind.Operator sign.LeftParenthesis
@@ -55,7 +55,7 @@ module _ {X I : Type 0} {text : X → List ℕ} {steps : I → Option (Result (T
       (at (empty_opened n (us ++ (lexeme text t ∷ [])) parts before s))
   to_parenthesis n us parts before s e = step_to (argument_due n us parts before s)
       (empty_opened n (us ++ (lexeme text t ∷ [])) parts before s) h
-      (ap (turn (argument_due n us parts before s) (lexeme text t)) e)
+      (ap (transition (argument_due n us parts before s) (lexeme text t)) e)
 
   pub to_bar : (x : Ann) (us : List Lexeme) (parts : Anns) (before : List Lexeme) (s : AnnStack)
       → t.kind ≡ kind.Operator sign.Bar
@@ -63,7 +63,7 @@ module _ {X I : Type 0} {text : X → List ℕ} {steps : I → Option (Result (T
       (at (part_due (add_ann parts x) (before ++ (us ++ (lexeme text t ∷ []))) s))
   to_bar x us parts before s e = step_to (part_read x us parts before s)
       (part_due (add_ann parts x) (before ++ (us ++ (lexeme text t ∷ []))) s) h
-      (ap (turn (part_read x us parts before s) (lexeme text t)) e)
+      (ap (transition (part_read x us parts before s) (lexeme text t)) e)
 
   pub to_comma : (x : Ann) (us : List Lexeme) (head : Name) (done : Anns) (ts : List Lexeme) (parts : Anns)
       (before : List Lexeme) (s : AnnStack) → t.kind ≡ kind.Operator sign.Comma
@@ -73,7 +73,7 @@ module _ {X I : Type 0} {text : X → List ℕ} {steps : I → Option (Result (T
   to_comma x us head done ts parts before s e = step_to (part_read x us no_anns []
       (ann_inside head done ts parts before s)) (part_due no_anns []
       (ann_inside head (add_ann done x) (ts ++ (us ++ (lexeme text t ∷ []))) parts before s)) h
-      (ap (turn (part_read x us no_anns [] (ann_inside head done ts parts before s)) (lexeme text t)) e)
+      (ap (transition (part_read x us no_anns [] (ann_inside head done ts parts before s)) (lexeme text t)) e)
 
   pub to_close : (x : Ann) (us : List Lexeme) (head : Name) (done : Anns) (ts : List Lexeme) (parts : Anns)
       (before : List Lexeme) (s : AnnStack) → t.kind ≡ kind.Operator sign.RightBracket
@@ -83,7 +83,7 @@ module _ {X I : Type 0} {text : X → List ℕ} {steps : I → Option (Result (T
   to_close x us head done ts parts before s e = step_to (part_read x us no_anns []
       (ann_inside head done ts parts before s)) (part_read (applied (span (ts ++ (us ++ (lexeme text t ∷ [])))) head
       (add_ann done x)) (ts ++ (us ++ (lexeme text t ∷ []))) parts before s) h
-      (ap (turn (part_read x us no_anns [] (ann_inside head done ts parts before s)) (lexeme text t)) e)
+      (ap (transition (part_read x us no_anns [] (ann_inside head done ts parts before s)) (lexeme text t)) e)
 
 module _ {X I : Type 0} (text : X → List ℕ) (steps : I → Option (Result (Token X) Fault) → I → Type 0)
     (a : Reader X I) where
@@ -112,14 +112,14 @@ module _ {X I : Type 0} (text : X → List ℕ) (steps : I → Option (Result (T
   pub united : (x : Ann) (us : List Lexeme) (parts : Anns) (before : List Lexeme) (s : AnnStack)
       → IsAhead (kind.Operator sign.Bar) a.ahead ≡ false
       → Onward text steps a a (at (part_read x us parts before s))
-      (at (part_read (whole_ann parts x (before ++ us)) (before ++ us) no_anns [] s))
+      (at (part_read (ann_of_parts parts x (before ++ us)) (before ++ us) no_anns [] s))
   united x us parts before s e = alike text steps a (part_read x us parts before s)
-      (part_read (whole_ann parts x (before ++ us)) (before ++ us) no_anns [] s) refl refl
+      (part_read (ann_of_parts parts x (before ++ us)) (before ++ us) no_anns [] s) refl refl
       (λ t h. ap (λ z. on z (part_due (add_ann parts x) (before ++ (us ++ (lexeme text t ∷ []))) s)
-      (ann_end (whole_ann parts x (before ++ us)) (before ++ us) s (lexeme text t) t.kind))
+      (ann_end (ann_of_parts parts x (before ++ us)) (before ++ us) s (lexeme text t) t.kind))
       (not_seen (kind.Operator sign.Bar) e h)
-      ∙ ap (λ z. on z (part_due (add_ann no_anns (whole_ann parts x (before ++ us)))
-      ([] ++ ((before ++ us) ++ (lexeme text t ∷ []))) s) (ann_end (whole_ann parts x (before ++ us)) (before ++ us)
+      ∙ ap (λ z. on z (part_due (add_ann no_anns (ann_of_parts parts x (before ++ us)))
+      ([] ++ ((before ++ us) ++ (lexeme text t ∷ []))) s) (ann_end (ann_of_parts parts x (before ++ us)) (before ++ us)
       s (lexeme text t) t.kind)) (sym (not_seen (kind.Operator sign.Bar) e h)))
 
   -- after an argument with neither `|` nor a comma the bracket closes
@@ -144,7 +144,7 @@ module _ {X I : Type 0} (text : X → List ℕ) (steps : I → Option (Result (T
       → NeedsKind text kind.Name (part_due parts before s) a
   no_part parts before s e = record {
     unfinished = refl;
-    stuck_at = λ t h c. ap (λ v. on v (part_named (name_at (lexeme text t)) (lexeme text t ∷ []) parts before s)
+    stuck_at = λ t h c. ap (λ v. on v (part_named (name_of_token (lexeme text t)) (lexeme text t ∷ []) parts before s)
         (on (same_kind t.kind (kind.Keyword word.None)) (part_read (none_type (span (lexeme text t ∷ [])))
         (lexeme text t ∷ []) parts before s) stuck)) c
         ∙ ap (λ v. on v (part_read (none_type (span (lexeme text t ∷ []))) (lexeme text t ∷ []) parts before s) stuck)

@@ -15,7 +15,7 @@ use Rattle.pc_tree.specs.Tree.{Module, module_of}
 use Rattle.pc_tree.specs.Depth.{too_deep_at}
 use Rattle.pc_grammar.specs.Grammar.{last_place}
 use Rattle.pc_grammar.specs.Faults.{IsModule, IsRefusal}
-use Rattle.pc_grammar.specs.Machine.{Reading, at, Outcome, reads, refuses, short, step, stop, run}
+use Rattle.pc_grammar.specs.Machine.{Reading, at, Outcome, reads, refuses, short, step, stop, read_tokens}
 use Rattle.pc_grammar.specs.Machine.Lines.{start}
 use Rattle.pc_grammar.proofs.Sound.{reads_spells}
 use Rattle.pc_grammar.proofs.Front.{misfit, ends_early}
@@ -25,12 +25,12 @@ use Rattle.pc_parse.specs.declared.parser.Parser.{Parser}
 use Rattle.pc_parse.specs.Internal.Modules.{GivesModule}
 use Rattle.pc_parse.specs.Answering.{IsRead, IsRefusedByTokens, IsFaulty}
 
-run_more : (r : Reading) (t : Lexeme) (ts : List Lexeme) → run r (t ∷ ts) ≡ run (step r t) ts
-unfolding run
+run_more : (r : Reading) (t : Lexeme) (ts : List Lexeme) → read_tokens r (t ∷ ts) ≡ read_tokens (step r t) ts
+unfolding read_tokens
 run_more r t ts = refl
 
-run_over : (r : Reading) → run r [] ≡ stop r
-unfolding run
+run_over : (r : Reading) → read_tokens r [] ≡ stop r
+unfolding read_tokens
 run_over r = refl
 
 -- where the last of these tokens ends, or what came before them
@@ -72,7 +72,7 @@ module _ {X : Type 0} (text : X → List ℕ) where
   record Whole (r : Reading) (xs : List (Result (Token X) Fault)) (m : Module) : Type 0 where
     tokens : List (Token X)
     all : xs ≡ map Ok tokens
-    run_is : run r (map (lexeme text) tokens) ≡ reads m
+    run_is : read_tokens r (map (lexeme text) tokens) ≡ reads m
 
   came_whole : (xs : List (Result (Token X) Fault)) (end : ℕ) (r : Reading) (m : Module)
       → run_items text end r xs ≡ Ok m → Whole r xs m
@@ -100,7 +100,7 @@ module _ {X : Type 0} (text : X → List ℕ) where
   record Unreadable (end : ℕ) (r : Reading) (xs : List (Result (Token X) Fault)) (e : Fault) : Type 0 where
     tokens : List (Token X)
     all : xs ≡ map Ok tokens
-    unread : Unread (end_of end (map (lexeme text) tokens)) (run r (map (lexeme text) tokens)) e
+    unread : Unread (end_of end (map (lexeme text) tokens)) (read_tokens r (map (lexeme text) tokens)) e
 
   module _ {I : Type 0} (steps : I → Option (Result (Token X) Fault) → I → Type 0) where
     came_fault : (xs : List (Result (Token X) Fault)) (it : I) (end : ℕ) (r : Reading) (e : Fault)
@@ -130,7 +130,7 @@ module _ {X : Type 0} (text : X → List ℕ) where
 same_refusal : (r q : Refusal) → fault.Refused r ≡ fault.Refused q → r ≡ q
 same_refusal r q e = cc
 
-refusal_of : (ts : List Lexeme) (r : Refusal) → Unread (end_of 0 ts) (run (at start) ts) (fault.Refused r)
+refusal_of : (ts : List Lexeme) (r : Refusal) → Unread (end_of 0 ts) (read_tokens (at start) ts) (fault.Refused r)
     → IsRefusal ts r
 refusal_of ts r (inl (byte, e, q)) = subst (λ z. IsRefusal ts z)
     (sym (same_refusal r (record { code = code.G1; byte = byte }) q)) (inl (refl, inl (misfit ts byte e)))

@@ -16,12 +16,12 @@ use Rattle.pc_tree.specs.declared.tree.Param.{Param as RustParam}
 use Rattle.pc_tree.specs.declared.tree.Stmt.{Stmt as RustStmt}
 use Rattle.pc_tree.specs.Tree.{Name, Ann, Param, FuncDef, Stmts, option_ann_of, param_of, stmts_of_list}
 use Rattle.pc_tree.specs.Depth.{optional_anns, wholes_of_params, wholes_of_stmts}
-use Rattle.pc_grammar.specs.Grammar.{name_at}
-use Rattle.pc_grammar.specs.Machine.{at, turn}
+use Rattle.pc_grammar.specs.Grammar.{name_of_token}
+use Rattle.pc_grammar.specs.Machine.{at, transition}
 use Rattle.pc_grammar.specs.Machine.Kinds.{same_kind, a_form}
-use Rattle.pc_grammar.specs.Machine.States.{Owner, of_module, of_class, DefStart, DefHead, Block, def_body}
+use Rattle.pc_grammar.specs.Machine.States.{FunctionOwner, of_module, of_class, DefStart, DefHead, Block, def_body}
 use Rattle.pc_grammar.specs.Machine.States.{AnnotationPosition, of_return, State, fixed, def_due, self_read, param_due}
-use Rattle.pc_grammar.specs.Machine.States.{params_read, Turn, stuck, on}
+use Rattle.pc_grammar.specs.Machine.States.{params_read, Transition, stuck, on}
 use Rattle.pc_grammar.specs.Machine.Finishing.{suite_of}
 use Rattle.pc_grammar.specs.Machine.Lines.{params_of}
 use Rattle.pc_grammar.specs.Fronts.Lines.{is_method}
@@ -59,7 +59,7 @@ returned d ps None k = refl
 returned d ps (Some a) k = refl
 
 module _ {X I : Type 0} {text : X → List ℕ} where
-  pub needs_open : (a : Reader X I) (owner : Owner) (d : DefStart) → NeedsKind text (kind.Operator sign.LeftParenthesis)
+  pub needs_open : (a : Reader X I) (owner : FunctionOwner) (d : DefStart) → NeedsKind text (kind.Operator sign.LeftParenthesis)
       (params_of owner d) a
   needs_open a (of_module top) d = kind_due (kind.Operator sign.LeftParenthesis) [] (param_due d [])
   needs_open a (of_class c ms) d = kind_due (kind.Operator sign.LeftParenthesis) (a_form (codes "self") ∷ [])
@@ -68,7 +68,7 @@ module _ {X I : Type 0} {text : X → List ℕ} where
 module _ {X I : Type 0} {text : X → List ℕ} {steps : I → Option (Result (Token X) Fault) → I → Type 0}
     {can : I → Type 0} {left : I → Count} where
   opens : {a b : Reader X I} {t : Token X} → Takes text steps can left a b t
-      → t.kind ≡ kind.Operator sign.LeftParenthesis → (owner : Owner) (d : DefStart)
+      → t.kind ≡ kind.Operator sign.LeftParenthesis → (owner : FunctionOwner) (d : DefStart)
       → Onward text steps a b (at (params_of owner d)) (at (begun (is_method owner) d))
   opens h k (of_module top) d = kind_read (kind.Operator sign.LeftParenthesis) h k [] (param_due d [])
   opens h k (of_class c ms) d = kind_read (kind.Operator sign.LeftParenthesis) h k (a_form (codes "self") ∷ [])
@@ -123,10 +123,10 @@ module _ {X I : Type 0} {text : X → List ℕ} {steps : I → Option (Result (T
     ready = x.ready;
     later = omega (arith, x.later, h.later, f.takes.later);
     leads = λ d o y. form_read f [] (self_read d) o (step_to (self_read d) (param_due d []) h
-        (ap (turn (self_read d) (lexeme text u)) k) o (x.leads d o y));
+        (ap (transition (self_read d) (lexeme text u)) k) o (x.leads d o y));
   }
   after_self a p b {u = u} f h k same (Err e) x = blame (λ o w. λ d. form_read f [] (self_read d) o
-      (step_to (self_read d) (param_due d []) h (ap (turn (self_read d) (lexeme text u)) k) o (w d))) x
+      (step_to (self_read d) (param_due d []) h (ap (transition (self_read d) (lexeme text u)) k) o (w d))) x
 
   pub self_alone : {a b : Parser X I} {t : Token X} {u : Token X} {m : Reader X I} {v : Vec RustParam Global}
       → TakesForm text steps can left (codes "self") a.reader m t → Takes text steps can left m b.reader u
@@ -139,7 +139,7 @@ module _ {X I : Type 0} {text : X → List ℕ} {steps : I → Option (Result (T
     ready = h.ready;
     later = omega (arith, h.later, f.takes.later);
     leads = λ d o y. form_read f [] (self_read d) o (step_to (self_read d) (params_read d []) h
-        (ap (turn (self_read d) (lexeme text u)) k) o y);
+        (ap (transition (self_read d) (lexeme text u)) k) o y);
   }
 
   pub self_unclosed : {a m : Reader X I} {t : Token X} {e : Fault} → TakesForm text steps can left (codes "self") a m t
@@ -158,29 +158,29 @@ module _ {X I : Type 0} {text : X → List ℕ} {steps : I → Option (Result (T
 
   pub signature_fails : (a : Parser X I) (method : Bool) {m : Reader X I} {name : RustName} {e : Fault}
       → GivesName text steps can left a.reader m name
-      → Blames e (λ o. (owner : Owner) (d : DefStart) → is_method owner ≡ method
+      → Blames e (λ o. (owner : FunctionOwner) (d : DefStart) → is_method owner ≡ method
       → Came text steps m (at (params_of owner d)) o)
-      → Blames e (λ o. (owner : Owner) (first : Place) → is_method owner ≡ method
+      → Blames e (λ o. (owner : FunctionOwner) (first : Place) → is_method owner ≡ method
       → Came text steps a.reader (at (def_due owner first)) o)
   signature_fails a method n w = blame (λ o u. λ owner first i. let d : DefStart =
-      record { owner = owner; first = first; name = name_at (lexeme text n.token) } in
-      step_to (def_due owner first) (params_of owner d) n.takes (ap (turn (def_due owner first) (lexeme text n.token))
+      record { owner = owner; first = first; name = name_of_token (lexeme text n.token) } in
+      step_to (def_due owner first) (params_of owner d) n.takes (ap (transition (def_due owner first) (lexeme text n.token))
       n.is) o (u owner d i)) w
 
   module _ (a : Parser X I) {p q : Parser X I} {name : RustName} {method : Bool} {v : Vec RustParam Global}
       (n : GivesName text steps can left a.reader p.reader name) (same : p.deep ≡ a.deep)
       (x : GivesSignature text steps can left method p q v) where
-    to_params : (owner : Owner) (first : Place) → is_method owner ≡ method
+    to_params : (owner : FunctionOwner) (first : Place) → is_method owner ≡ method
         → Onward text steps a.reader q.reader (at (def_due owner first))
-        (at (params_read (record { owner = owner; first = first; name = name_at (lexeme text n.token) }) x.params))
+        (at (params_read (record { owner = owner; first = first; name = name_of_token (lexeme text n.token) }) x.params))
     to_params owner first m o y = let d : DefStart = record {
       owner = owner;
       first = first;
       name =
-          name_at (lexeme text n.token);
+          name_of_token (lexeme text n.token);
     } in
         step_to (def_due owner first) (params_of owner d) n.takes
-        (ap (turn (def_due owner first) (lexeme text n.token)) n.is) o (x.leads owner d m o y)
+        (ap (transition (def_due owner first) (lexeme text n.token)) n.is) o (x.leads owner d m o y)
 
     bare : (d : DefStart) → StandsBefore text q.reader (params_read d x.params)
         (opens_ann sign.Arrow (of_return d x.params) (λ k. on (same_kind k (kind.Operator sign.Colon))
@@ -189,12 +189,12 @@ module _ {X I : Type 0} {text : X → List ℕ} {steps : I → Option (Result (T
         (λ k. on (same_kind k (kind.Operator sign.Colon)) (suite_of (def_body (head_of d x.params None))) stuck)) refl
         (λ t k. refl)
 
-    pub returns_fail : {e : Fault} → Blames e (λ o. (st : State) (c : AnnotationPosition) (other : TokenKind → Turn)
+    pub returns_fail : {e : Fault} → Blames e (λ o. (st : State) (c : AnnotationPosition) (other : TokenKind → Transition)
         → StandsBefore text q.reader st (opens_ann sign.Arrow c other) → Came text steps q.reader (at st) o)
-        → Blames e (λ o. (owner : Owner) (first : Place) → is_method owner ≡ method
+        → Blames e (λ o. (owner : FunctionOwner) (first : Place) → is_method owner ≡ method
         → Came text steps a.reader (at (def_due owner first)) o)
     returns_fail w = blame (λ o u. λ owner first m. let d : DefStart =
-        record { owner = owner; first = first; name = name_at (lexeme text n.token) } in
+        record { owner = owner; first = first; name = name_of_token (lexeme text n.token) } in
         to_params owner first m o (u (params_read d x.params) (of_return d x.params)
         (λ k. on (same_kind k (kind.Operator sign.Colon)) (suite_of (def_body (head_of d x.params None))) stuck)
         (bare d))) w
@@ -211,27 +211,27 @@ module _ {X I : Type 0} {text : X → List ℕ} {steps : I → Option (Result (T
 
       pub colon_fails : {e : Fault} → Blames e (λ o. (st : State) → NeedsKind text (kind.Operator sign.Colon) st
           r.reader → Came text steps r.reader (at st) o)
-          → Blames e (λ o. (owner : Owner) (first : Place) → is_method owner ≡ method
+          → Blames e (λ o. (owner : FunctionOwner) (first : Place) → is_method owner ≡ method
           → Came text steps a.reader (at (def_due owner first)) o)
       colon_fails w = blame (λ o u. λ owner first m. let d : DefStart =
-          record { owner = owner; first = first; name = name_at (lexeme text n.token) } in let y = to_colon d in
+          record { owner = owner; first = first; name = name_of_token (lexeme text n.token) } in let y = to_colon d in
           to_params owner first m o
           (y.leads o (u y.behind (awaits (kind.Operator sign.Colon)
           (suite_of (def_body (head_of d x.params z.annotation))) y.stands (λ t h. refl))))) w
 
       module _ (s : Parser X I) {t : Token X} (h : Takes text steps can left r.reader s.reader t)
           (k : t.kind ≡ kind.Operator sign.Colon) where
-        to_suite : (owner : Owner) (first : Place) → is_method owner ≡ method
+        to_suite : (owner : FunctionOwner) (first : Place) → is_method owner ≡ method
             → Onward text steps a.reader s.reader (at (def_due owner first))
             (at
             (suite_of
-            (def_body (head_of (record { owner = owner; first = first; name = name_at (lexeme text n.token) })
+            (def_body (head_of (record { owner = owner; first = first; name = name_of_token (lexeme text n.token) })
             x.params z.annotation))))
         to_suite owner first m o y = let d : DefStart = record {
           owner = owner;
           first = first;
           name =
-              name_at (lexeme text n.token);
+              name_of_token (lexeme text n.token);
         } in
             to_params owner first m o (reaches_to (suite_of (def_body (head_of d x.params z.annotation))) (to_colon d) h
             (takes (kind.Operator sign.Colon) t.kind (suite_of (def_body (head_of d x.params z.annotation))) stuck
@@ -239,10 +239,10 @@ module _ {X I : Type 0} {text : X → List ℕ} {steps : I → Option (Result (T
 
         pub suite_fails : {e : Fault} → Blames e (λ o. (block : Block) → Came text steps s.reader (at (suite_of block))
             o)
-            → Blames e (λ o. (owner : Owner) (first : Place) → is_method owner ≡ method
+            → Blames e (λ o. (owner : FunctionOwner) (first : Place) → is_method owner ≡ method
             → Came text steps a.reader (at (def_due owner first)) o)
         suite_fails w = blame (λ o u. λ owner first m. to_suite owner first m o
-            (u (def_body (head_of (record { owner = owner; first = first; name = name_at (lexeme text n.token) })
+            (u (def_body (head_of (record { owner = owner; first = first; name = name_of_token (lexeme text n.token) })
             x.params z.annotation)))) w
 
         pub function_read : {b : Parser X I} {body : Vec RustStmt Global} → s.deep ≡ r.deep
@@ -260,7 +260,7 @@ module _ {X I : Type 0} {text : X → List ℕ} {steps : I → Option (Result (T
             let first_is : q.deep ≡ deep_after a.deep (wholes_of_params x.params) =
             subst (λ i. q.deep ≡ deep_after i (wholes_of_params x.params)) same x.keeps.deep in record {
               function = record {
-                name = name_at (lexeme text n.token);
+                name = name_of_token (lexeme text n.token);
                 params = x.params;
                 returns = z.annotation;
                 body = y.statements;
@@ -278,16 +278,16 @@ module _ {X I : Type 0} {text : X → List ℕ} {steps : I → Option (Result (T
                     let make : Name → List Param → Option Ann → Stmts → FuncDef = λ i ps j ss.
                     record { name = i; params = ps; returns = j; body = ss } in
                     ap (λ i. make i (map param_of v.items) (option_ann_of ann) (stmts_of_list body.items)) n.name
-                    ∙ ap (λ i. make (name_at (lexeme text n.token)) i (option_ann_of ann) (stmts_of_list body.items))
+                    ∙ ap (λ i. make (name_of_token (lexeme text n.token)) i (option_ann_of ann) (stmts_of_list body.items))
                     (x.keeps.kept eq)
-                    ∙ ap (λ i. make (name_at (lexeme text n.token)) x.params i (stmts_of_list body.items))
+                    ∙ ap (λ i. make (name_of_token (lexeme text n.token)) x.params i (stmts_of_list body.items))
                     (z.keeps.kept er)
-                    ∙ ap (λ i. make (name_at (lexeme text n.token)) x.params z.annotation i) (y.keeps.kept e);
+                    ∙ ap (λ i. make (name_of_token (lexeme text n.token)) x.params z.annotation i) (y.keeps.kept e);
               };
               ready = y.ready;
               later = omega (arith, y.later, h.later, z.later, x.later, n.takes.later);
               leads = λ owner first m o i. to_suite owner first m o
                   (y.leads
-                  (def_body (head_of (record { owner = owner; first = first; name = name_at (lexeme text n.token) })
+                  (def_body (head_of (record { owner = owner; first = first; name = name_of_token (lexeme text n.token) })
                   x.params z.annotation)) o i);
             }

@@ -8,11 +8,11 @@ use Rattle.pc_token.specs.declared.token.Token.{Token}
 use Rattle.pc_token.specs.declared.token.TokenKind.TheVariants as kind
 use Rattle.pc_token.specs.declared.token.Keyword.TheVariants as word
 use Rattle.pc_token.specs.declared.token.Operator.TheVariants as sign
-use Rattle.pc_grammar.specs.Grammar.{name_at}
-use Rattle.pc_grammar.specs.Machine.{at, turn}
+use Rattle.pc_grammar.specs.Grammar.{name_of_token}
+use Rattle.pc_grammar.specs.Machine.{at, transition}
 use Rattle.pc_grammar.specs.Machine.Kinds.{same_kind, a_kind, a_form, is_fixed}
 use Rattle.pc_grammar.specs.Machine.Lines.{due, start, no_top, takes_header}
-use Rattle.pc_grammar.specs.Machine.States.{Stage, after_future, after_dataclasses, after_headers, Top, of_module}
+use Rattle.pc_grammar.specs.Machine.States.{HeaderStage, after_future, after_dataclasses, after_headers, Top, of_module}
 use Rattle.pc_grammar.specs.Machine.States.{State}
 use Rattle.pc_grammar.specs.Machine.States.{fixed, items, importing, item_named, decorator_due, def_due, stuck, on}
 use Rattle.pc_reader.specs.declared.reader.Reader.{Reader}
@@ -38,14 +38,14 @@ module _ {X I : Type 0} (text : X → List ℕ) (steps : I → Option (Result (T
   not_form form e h = sym (ap (IsFormAhead text form) h) ∙ e
 
   -- with no other header the items begin
-  pub headed : (stage : Stage) (top : Top) → IsAhead (kind.Keyword word.From) a.ahead ≡ false
+  pub headed : (stage : HeaderStage) (top : Top) → IsAhead (kind.Keyword word.From) a.ahead ≡ false
       → Onward text steps a a (at (items stage top)) (at (items after_headers top))
   headed stage top e = alike text steps a (items stage top) (items after_headers top) refl refl
-      (λ t h. ap (λ z. on (same_kind t.kind kind.Name) (item_named (name_at (lexeme text t)) top)
+      (λ t h. ap (λ z. on (same_kind t.kind kind.Name) (item_named (name_of_token (lexeme text t)) top)
       (on (same_kind t.kind (kind.Operator sign.At)) (decorator_due t.place top)
       (on (same_kind t.kind (kind.Keyword word.Def)) (def_due (of_module top) t.place)
       (on (z && takes_header stage) (importing stage top) stuck)))) (not_seen (kind.Keyword word.From) e h)
-      ∙ sym (ap (λ z. on (same_kind t.kind kind.Name) (item_named (name_at (lexeme text t)) top)
+      ∙ sym (ap (λ z. on (same_kind t.kind kind.Name) (item_named (name_of_token (lexeme text t)) top)
       (on (same_kind t.kind (kind.Operator sign.At)) (decorator_due t.place top)
       (on (same_kind t.kind (kind.Keyword word.Def)) (def_due (of_module top) t.place)
       (on (z && false) (importing after_headers top) stuck)))) (not_seen (kind.Keyword word.From) e h)))
@@ -100,11 +100,11 @@ module _ {X I : Type 0} (text : X → List ℕ) (steps : I → Option (Result (T
 
 module _ {X I : Type 0} {text : X → List ℕ} {steps : I → Option (Result (Token X) Fault) → I → Type 0}
     {can : I → Type 0} {left : I → Count} where
-  pub from_read : {a b : Reader X I} {t : Token X} (stage : Stage) (top : Top) → Takes text steps can left a b t
+  pub from_read : {a b : Reader X I} {t : Token X} (stage : HeaderStage) (top : Top) → Takes text steps can left a b t
       → t.kind ≡ kind.Keyword word.From → takes_header stage ≡ true → Onward text steps a b (at (items stage top))
       (at (importing stage top))
   from_read {t = t} stage top h k s = step_to (items stage top) (importing stage top) h
-      (ap (turn (items stage top) (lexeme text t)) k ∙ ap (λ z. on z (importing stage top) stuck) s)
+      (ap (transition (items stage top) (lexeme text t)) k ∙ ap (λ z. on z (importing stage top) stuck) s)
 
   -- an import is read from its tokens
   pub import_read : (source imported : List ℕ) {a p q r b : Reader X I} {t u v w : Token X}

@@ -16,11 +16,11 @@ use Rattle.pc_tree.specs.Depth.{whole_expr, wholes_of_stmt, wholes_of_stmts}
 use Rattle.pc_grammar.specs.Machine.{at}
 use Rattle.pc_grammar.specs.Machine.Kinds.{Follow, same_kind, follow_of, lead_of, leads_out}
 use Rattle.pc_grammar.specs.Machine.States.{Block, Site, else_body, whole, State, stmts, after_branch, operand, have}
-use Rattle.pc_grammar.specs.Machine.Expressions.{rank}
+use Rattle.pc_grammar.specs.Machine.Expressions.{needed_level}
 use Rattle.pc_grammar.specs.Machine.Finishing.{add_stmt, suite_of, nested_in}
 use Rattle.pc_reader.specs.declared.operand.Operand.{Operand}
 use Rattle.pc_reader.specs.declared.reader.Reader.{Reader}
-use Rattle.pc_reader.specs.Internal.Expressions.{Gives, NextIs, Over, Undotted}
+use Rattle.pc_reader.specs.Internal.Expressions.{GivesOperand, NextIs, Over, Undotted}
 use Rattle.pc_reader.specs.Reading.{kind_ahead, place_ahead, IsAhead, Onward, IsReady, lexeme, left_in}
 use Rattle.pc_reader.proofs.Steps.{not_seen}
 use Rattle.pc_reader.proofs.Streams.{blame}
@@ -47,7 +47,7 @@ module _ {X I : Type 0} (text : X → List ℕ) (steps : I → Option (Result (T
   -- an expression that was read and noted
   pub whole_given : (a b : Parser X I) (r : Reader X I) (o : Operand) → b.reader ≡ r
       → b.deep ≡ deep_after a.deep (record { start = o.first; depth = o.depth } ∷ [])
-      → Gives text steps can left (λ s. rank s ≡ 0) 0 a.reader r o → NextIs (Over 0 o.level) r.ahead
+      → GivesOperand text steps can left (λ s. needed_level s ≡ 0) 0 a.reader r o → NextIs (Over 0 o.level) r.ahead
       → NextIs (Undotted o.level) r.ahead → GivesWhole text steps can left a b o
   whole_given a b r o e d g v u = record {
     part = g.part;

@@ -22,14 +22,14 @@ use Rattle.pc_tree.specs.declared.tree.FuncDef.{FuncDef as RustFuncDef}
 use Rattle.pc_tree.specs.Tree.{Name, Ann, Literal, Field, Member, field_member, method_member, ClassDef, name_of}
 use Rattle.pc_tree.specs.Tree.{ann_of, option_name_of, option_literal_of, member_of, no_anns}
 use Rattle.pc_tree.specs.Depth.{whole_ann, wholes_of_def, wholes_of_members}
-use Rattle.pc_grammar.specs.Grammar.{name_at}
-use Rattle.pc_grammar.specs.Machine.{Reading, at, turn, stop, short}
+use Rattle.pc_grammar.specs.Grammar.{name_of_token}
+use Rattle.pc_grammar.specs.Machine.{Reading, at, transition, stop, short}
 use Rattle.pc_grammar.specs.Machine.Kinds.{same_kind, a_kind}
 use Rattle.pc_grammar.specs.Machine.States.{after_headers, Top, ClassStart, of_class, AnnotationPosition, of_field}
 use Rattle.pc_grammar.specs.Machine.States.{LiteralContext, default_of_field, ann_whole, State, fixed, items}
 use Rattle.pc_grammar.specs.Machine.States.{decorator_due, class_due, class_named, base_due, members, def_due}
 use Rattle.pc_grammar.specs.Machine.States.{literal_due}
-use Rattle.pc_grammar.specs.Machine.States.{part_due, Turn, stuck, go, on}
+use Rattle.pc_grammar.specs.Machine.States.{part_due, Transition, stuck, go, on}
 use Rattle.pc_grammar.specs.Machine.Finishing.{field, finish_ann, after_class}
 use Rattle.pc_grammar.specs.Machine.Lines.{due, members_end}
 use Rattle.pc_reader.specs.declared.reader.Reader.{Reader}
@@ -86,8 +86,8 @@ module _ {X I : Type 0} (text : X → List ℕ) (steps : I → Option (Result (T
       (after_class c [])))
   passed_over a e c = alike text steps a (members c []) (fixed (a_kind (kind.Keyword word.Pass))
       (a_kind kind.Newline ∷ a_kind kind.Dedent ∷ []) (after_class c [])) refl refl
-      (λ t h. let k = kind_seen (kind.Keyword word.Pass) e h in ap (turn (members c []) (lexeme text t)) k
-      ∙ sym (ap (turn (fixed (a_kind (kind.Keyword word.Pass)) (a_kind kind.Newline ∷ a_kind kind.Dedent ∷ [])
+      (λ t h. let k = kind_seen (kind.Keyword word.Pass) e h in ap (transition (members c []) (lexeme text t)) k
+      ∙ sym (ap (transition (fixed (a_kind (kind.Keyword word.Pass)) (a_kind kind.Newline ∷ a_kind kind.Dedent ∷ [])
       (after_class c [])) (lexeme text t)) k))
 
   -- with no base the suite begins
@@ -123,10 +123,10 @@ module _ {X I : Type 0} {text : X → List ℕ} {steps : I → Option (Result (T
   module _ (a : Parser X I) {m : Reader X I} {name : RustName} (n : GivesName text steps can left a.reader m name) where
     named : (c : ClassStart) (ms : List Member) → Onward text steps a.reader m (at (members c ms))
         (at (fixed (a_kind (kind.Operator sign.Colon)) [] (part_due no_anns []
-        (ann_whole (of_field c ms (name_at (lexeme text n.token)))))))
+        (ann_whole (of_field c ms (name_of_token (lexeme text n.token)))))))
     named c ms = step_to (members c ms) (fixed (a_kind (kind.Operator sign.Colon)) []
-        (part_due no_anns [] (ann_whole (of_field c ms (name_at (lexeme text n.token)))))) n.takes
-        (ap (turn (members c ms) (lexeme text n.token)) n.is)
+        (part_due no_anns [] (ann_whole (of_field c ms (name_of_token (lexeme text n.token)))))) n.takes
+        (ap (transition (members c ms) (lexeme text n.token)) n.is)
 
     pub colon_missing : {e : Fault} → Blames e (λ o. (st : State) → NeedsKind text (kind.Operator sign.Colon) st m
         → Came text steps m (at st) o)
@@ -136,40 +136,40 @@ module _ {X I : Type 0} {text : X → List ℕ} {steps : I → Option (Result (T
         blame
         (λ o u. λ c ms d g. named c ms o
         (u (fixed (a_kind (kind.Operator sign.Colon)) [] (part_due no_anns []
-        (ann_whole (of_field c ms (name_at (lexeme text n.token))))))
+        (ann_whole (of_field c ms (name_of_token (lexeme text n.token))))))
         (kind_due (kind.Operator sign.Colon) [] (part_due no_anns []
-        (ann_whole (of_field c ms (name_at (lexeme text n.token)))))))) w
+        (ann_whole (of_field c ms (name_of_token (lexeme text n.token)))))))) w
 
     module _ {p : Reader X I} {t : Token X} (h : Takes text steps can left m p t)
         (k : t.kind ≡ kind.Operator sign.Colon) where
       annotated : (c : ClassStart) (ms : List Member) → Onward text steps a.reader p (at (members c ms))
-          (at (part_due no_anns [] (ann_whole (of_field c ms (name_at (lexeme text n.token))))))
+          (at (part_due no_anns [] (ann_whole (of_field c ms (name_of_token (lexeme text n.token))))))
       annotated c ms o y = named c ms o (kind_read (kind.Operator sign.Colon) h k []
-          (part_due no_anns [] (ann_whole (of_field c ms (name_at (lexeme text n.token))))) o y)
+          (part_due no_anns [] (ann_whole (of_field c ms (name_of_token (lexeme text n.token))))) o y)
 
       pub field_annotation_fails : {e : Fault} → Blames e (λ o. (i : AnnotationPosition)
           → Came text steps p (at (part_due no_anns [] (ann_whole i))) o)
           → Blames e (λ o. (c : ClassStart) (ms : List Member) → IsAhead (kind.Keyword word.Def) a.reader.ahead ≡ false
           → GoOn a.reader c ms → Came text steps a.reader (at (members c ms)) o)
       field_annotation_fails w = blame (λ o u. λ c ms d g. annotated c ms o
-          (u (of_field c ms (name_at (lexeme text n.token))))) w
+          (u (of_field c ms (name_of_token (lexeme text n.token))))) w
 
       module _ {q b : Parser X I} {ann : RustAnn} (same : q.reader ≡ p) (x : GivesAnn text steps can left q b ann) where
         behind : (c : ClassStart) (ms : List Member) → LeadsTo text steps p b.reader
-            (part_due no_anns [] (ann_whole (of_field c ms (name_at (lexeme text n.token)))))
-            (finish_ann (of_field c ms (name_at (lexeme text n.token))) x.annotation)
-        behind c ms = let i = of_field c ms (name_at (lexeme text n.token)) in record {
+            (part_due no_anns [] (ann_whole (of_field c ms (name_of_token (lexeme text n.token)))))
+            (finish_ann (of_field c ms (name_of_token (lexeme text n.token))) x.annotation)
+        behind c ms = let i = of_field c ms (name_of_token (lexeme text n.token)) in record {
           behind = x.behind i;
           stands = record { unfinished = x.unfinished i; goes = x.goes i };
           leads = λ o y. subst (λ z. Came text steps z (at (part_due no_anns [] (ann_whole i))) o) same (x.leads i o y);
         }
 
         pub field_default_fails : {e : Fault} → Blames e (λ o. (st : State) (i : LiteralContext)
-            (other : TokenKind → Turn) → StandsBefore text b.reader st (opens_literal i other)
+            (other : TokenKind → Transition) → StandsBefore text b.reader st (opens_literal i other)
             → Came text steps b.reader (at st) o)
             → Blames e (λ o. (c : ClassStart) (ms : List Member) → IsAhead (kind.Keyword word.Def) a.reader.ahead
             ≡ false → GoOn a.reader c ms → Came text steps a.reader (at (members c ms)) o)
-        field_default_fails w = blame (λ o u. λ c ms d g. let N = name_at (lexeme text n.token) in let r =
+        field_default_fails w = blame (λ o u. λ c ms d g. let N = name_of_token (lexeme text n.token) in let r =
             behind c ms in
             annotated c ms o (r.leads o (u r.behind (default_of_field c ms N x.annotation)
             (λ i. on (same_kind i kind.Newline) (members c (ms ++ (field N x.annotation None ∷ []))) stuck)
@@ -177,11 +177,11 @@ module _ {X I : Type 0} {text : X → List ℕ} {steps : I → Option (Result (T
 
         module _ {f : Reader X I} {l : Option RustLiteral} (y : GivesDefault text steps can left b.reader f l) where
           ended_line : (c : ClassStart) (ms : List Member) → LeadsTo text steps p f
-              (part_due no_anns [] (ann_whole (of_field c ms (name_at (lexeme text n.token)))))
+              (part_due no_anns [] (ann_whole (of_field c ms (name_of_token (lexeme text n.token)))))
               (λ k. on (same_kind k kind.Newline)
-              (members c (ms ++ (field (name_at (lexeme text n.token)) x.annotation (option_literal_of l) ∷ [])))
+              (members c (ms ++ (field (name_of_token (lexeme text n.token)) x.annotation (option_literal_of l) ∷ [])))
               stuck)
-          ended_line c ms = let N = name_at (lexeme text n.token) in let r = behind c ms in
+          ended_line c ms = let N = name_of_token (lexeme text n.token) in let r = behind c ms in
               let z = y.leads r.behind (default_of_field c ms N x.annotation)
               (λ i. on (same_kind i kind.Newline) (members c (ms ++ (field N x.annotation None ∷ []))) stuck)
               r.stands in
@@ -198,13 +198,13 @@ module _ {X I : Type 0} {text : X → List ℕ} {steps : I → Option (Result (T
               (r.leads o
               (u r.behind
               (awaits kind.Newline
-              (members c (ms ++ (field (name_at (lexeme text n.token)) x.annotation (option_literal_of l) ∷ [])))
+              (members c (ms ++ (field (name_of_token (lexeme text n.token)) x.annotation (option_literal_of l) ∷ [])))
               r.stands (λ t h. refl))))) w
 
           pub field_read : {s : Parser X I} {v : Token X} → q.deep ≡ a.deep → s.deep ≡ b.deep
               → Takes text steps can left f s.reader v → v.kind ≡ kind.Newline
               → GivesField text steps can left a s (record { name = name; annotation = ann; default = l })
-          field_read {s = s} {v = v} qa sb j i = let N = name_at (lexeme text n.token) in
+          field_read {s = s} {v = v} qa sb j i = let N = name_of_token (lexeme text n.token) in
               let make : Name → Ann → Field = λ e z. record {
                 name = e;
                 annotation = z;
@@ -238,11 +238,11 @@ module _ {X I : Type 0} {text : X → List ℕ} {steps : I → Option (Result (T
 
   pub method_fails : {a m : Reader X I} {t : Token X} {e : Fault} → Takes text steps can left a m t
       → t.kind ≡ kind.Keyword word.Def
-      → Blames e (λ o. (owner : Rattle.pc_grammar.specs.Machine.States.Owner) (first : Place)
+      → Blames e (λ o. (owner : Rattle.pc_grammar.specs.Machine.States.FunctionOwner) (first : Place)
       → Rattle.pc_grammar.specs.Fronts.Lines.is_method owner ≡ true → Came text steps m (at (def_due owner first)) o)
       → Blames e (λ o. (c : ClassStart) (ms : List Member) → GoOn a c ms → Came text steps a (at (members c ms)) o)
   method_fails {t = t} h k w = blame (λ o u. λ c ms g. step_to (members c ms) (def_due (of_class c ms) t.place) h
-      (ap (turn (members c ms) (lexeme text t)) k) o (u (of_class c ms) t.place refl)) w
+      (ap (transition (members c ms) (lexeme text t)) k) o (u (of_class c ms) t.place refl)) w
 
   pub method_as_member : (a p : Parser X I) {b : Parser X I} {t : Token X} {f : RustFuncDef}
       → Takes text steps can left a.reader p.reader t → t.kind ≡ kind.Keyword word.Def → p.deep ≡ a.deep
@@ -257,7 +257,7 @@ module _ {X I : Type 0} {text : X → List ℕ} {steps : I → Option (Result (T
     ready = x.ready;
     later = omega (arith, x.later, h.later);
     leads = λ c ms o y. step_to (members c ms) (def_due (of_class c ms) t.place) h
-        (ap (turn (members c ms) (lexeme text t)) k) o (x.leads (of_class c ms) t.place refl o y);
+        (ap (transition (members c ms) (lexeme text t)) k) o (x.leads (of_class c ms) t.place refl o y);
   }
 
   -- ---- lists of members
@@ -312,7 +312,7 @@ module _ {X I : Type 0} {text : X → List ℕ} {steps : I → Option (Result (T
         later = omega (arith, h.later, x.later, later);
         leads = λ c o y. s.leads c o (x.leads c s.all o (step_to (members c (s.all ++ (x.member ∷ [])))
             (after_class c (s.all ++ (x.member ∷ []))) h
-            (ap (turn (members c (s.all ++ (x.member ∷ []))) (lexeme text t)) k
+            (ap (transition (members c (s.all ++ (x.member ∷ []))) (lexeme text t)) k
             ∙ ends_some c s.all x.member kind.Dedent) o y));
       }
 
@@ -331,7 +331,7 @@ module _ {X I : Type 0} {text : X → List ℕ} {steps : I → Option (Result (T
   module _ {a m : Reader X I} {t : Token X} (h : Takes text steps can left a m t)
       (k : t.kind ≡ kind.Operator sign.LeftParenthesis) where
     opened : (c : ClassStart) → Onward text steps a m (at (class_named c)) (at (base_due c))
-    opened c = step_to (class_named c) (base_due c) h (ap (turn (class_named c) (lexeme text t)) k)
+    opened c = step_to (class_named c) (base_due c) h (ap (transition (class_named c) (lexeme text t)) k)
 
     pub base_fails : {e : Fault} → Blames e (λ o. (st : State) → NeedsKind text kind.Name st m
         → Came text steps m (at st) o) → Blames e (λ o. (c : ClassStart) → c.base ≡ None
@@ -341,7 +341,7 @@ module _ {X I : Type 0} {text : X → List ℕ} {steps : I → Option (Result (T
         (λ o u. λ c q. opened c o
         (u (base_due c) (needs (λ t. fixed (a_kind (kind.Operator sign.RightParenthesis))
         (a_kind (kind.Operator sign.Colon) ∷ a_kind kind.Newline ∷ a_kind kind.Indent ∷ [])
-        (members (record c { base = Some (name_at t) }) [])) refl (λ t i. refl)))) w
+        (members (record c { base = Some (name_of_token t) }) [])) refl (λ t i. refl)))) w
 
     module _ {p : Reader X I} {name : RustName} (n : GivesName text steps can left m p name) where
       based : (c : ClassStart) → Onward text steps a p (at (class_named c))
@@ -351,8 +351,8 @@ module _ {X I : Type 0} {text : X → List ℕ} {steps : I → Option (Result (T
       based c o y = let rest : State → State = λ next. fixed (a_kind (kind.Operator sign.RightParenthesis))
           (a_kind (kind.Operator sign.Colon) ∷ a_kind kind.Newline ∷ a_kind kind.Indent ∷ []) next in
           opened c o
-          (step_to (base_due c) (rest (members (record c { base = Some (name_at (lexeme text n.token)) }) []))
-          n.takes (ap (turn (base_due c) (lexeme text n.token)) n.is) o
+          (step_to (base_due c) (rest (members (record c { base = Some (name_of_token (lexeme text n.token)) }) []))
+          n.takes (ap (transition (base_due c) (lexeme text n.token)) n.is) o
           (subst (λ z. Came text steps p (at (rest (members (record c { base = Some z }) []))) o) n.name y))
 
       pub base_unclosed : {e : Fault} → Blames e (λ o. (next : State)
@@ -398,7 +398,7 @@ module _ {X I : Type 0} {text : X → List ℕ} {steps : I → Option (Result (T
             top = top;
             first = first;
             decorator = t.place;
-            name = name_at v;
+            name = name_of_token v;
             base =
                 None;
           })) refl (λ v i. refl))))) w
@@ -410,7 +410,7 @@ module _ {X I : Type 0} {text : X → List ℕ} {steps : I → Option (Result (T
               first = first;
               decorator = t.place;
               name =
-                  name_at (lexeme text n.token);
+                  name_of_token (lexeme text n.token);
               base = None;
             })))
         named_class first top o y = decorated first top o (x.leads (class_due first t.place top) o
@@ -420,10 +420,10 @@ module _ {X I : Type 0} {text : X → List ℕ} {steps : I → Option (Result (T
               first = first;
               decorator = t.place;
               name =
-                  name_at (lexeme text n.token);
+                  name_of_token (lexeme text n.token);
               base = None;
             })) n.takes
-            (ap (turn (class_due first t.place top) (lexeme text n.token)) n.is) o y))
+            (ap (transition (class_due first t.place top) (lexeme text n.token)) n.is) o y))
 
         pub class_base_fails : {e : Fault} → Blames e (λ o. (c : ClassStart) → c.base ≡ None
             → Came text steps q (at (class_named c)) o) → Blames e (λ o. (first : Place) (top : Top)
@@ -433,7 +433,7 @@ module _ {X I : Type 0} {text : X → List ℕ} {steps : I → Option (Result (T
               top = top;
               first = first;
               decorator = t.place;
-              name = name_at (lexeme text n.token);
+              name = name_of_token (lexeme text n.token);
               base =
                   None;
             }) refl)) w
@@ -447,7 +447,7 @@ module _ {X I : Type 0} {text : X → List ℕ} {steps : I → Option (Result (T
                 top = top;
                 first = first;
                 decorator = t.place;
-                name = name_at (lexeme text n.token);
+                name = name_of_token (lexeme text n.token);
                 base =
                     None;
               } in
@@ -470,11 +470,11 @@ module _ {X I : Type 0} {text : X → List ℕ} {steps : I → Option (Result (T
                     option_name_of base;
                 members = ms;
               } in record {
-                class = make (name_at (lexeme text n.token)) y.all;
+                class = make (name_of_token (lexeme text n.token)) y.all;
                 keeps = record {
                   deep = subst (λ i. b.deep ≡ deep_after i (wholes_of_members y.all)) same y.keeps.deep;
                   kept = λ e. ap (λ i. make i (map member_of v.items)) n.name
-                      ∙ ap (make (name_at (lexeme text n.token))) (y.keeps.kept e);
+                      ∙ ap (make (name_of_token (lexeme text n.token))) (y.keeps.kept e);
                 };
                 ready = y.ready;
                 later = omega (arith, y.later, z.later, n.takes.later, x.later, f.takes.later);
@@ -482,7 +482,7 @@ module _ {X I : Type 0} {text : X → List ℕ} {steps : I → Option (Result (T
                   top = top;
                   first = first;
                   decorator = t.place;
-                  name = name_at (lexeme text n.token);
+                  name = name_of_token (lexeme text n.token);
                   base = None;
                 } in
                     named_class first top o (z.leads c refl o (y.leads (with_base c base) o i));

@@ -17,10 +17,10 @@ use Rattle.pc_tree.specs.declared.tree.Literal.{Literal as RustLiteral}
 use Rattle.pc_tree.specs.declared.tree.Param.{Param as RustParam}
 use Rattle.pc_tree.specs.Tree.{Name, Ann, Literal, Param, no_anns, option_ann_of, option_literal_of, param_of}
 use Rattle.pc_tree.specs.Depth.{Whole, optional_anns, wholes_of_params}
-use Rattle.pc_grammar.specs.Grammar.{name_at}
-use Rattle.pc_grammar.specs.Machine.{Reading, at, turn, stop, short}
+use Rattle.pc_grammar.specs.Grammar.{name_of_token}
+use Rattle.pc_grammar.specs.Machine.{Reading, at, transition, stop, short}
 use Rattle.pc_grammar.specs.Machine.States.{DefStart, AnnotationPosition, of_param, LiteralContext, default_of_param}
-use Rattle.pc_grammar.specs.Machine.States.{ann_whole, State, part_due, param_due, param_named, params_read, Turn}
+use Rattle.pc_grammar.specs.Machine.States.{ann_whole, State, part_due, param_due, param_named, params_read, Transition}
 use Rattle.pc_grammar.specs.Machine.States.{stuck}
 use Rattle.pc_grammar.specs.Machine.Finishing.{param, param_end, param_more}
 use Rattle.pc_reader.specs.declared.reader.Reader.{Reader}
@@ -89,7 +89,7 @@ module _ {X I : Type 0} (text : X → List ℕ) (steps : I → Option (Result (T
   -- the token that begins it could not be taken
   pub opener_fails : (opener : Opener) → Blames e (λ o. (r : Reading) → (a.ahead ≡ None → stop r ≡ short)
       → Came text steps a r o)
-      → Blames e (λ o. (st : State) (c : AnnotationPosition) (other : TokenKind → Turn)
+      → Blames e (λ o. (st : State) (c : AnnotationPosition) (other : TokenKind → Transition)
       → StandsBefore text a st (opens_ann opener c other) → Came text steps a (at st) o)
   opener_fails opener w = blame (λ o u. λ st c other x. u (at st) (λ q. x.unfinished)) w
 
@@ -99,7 +99,7 @@ module _ {X I : Type 0} (text : X → List ℕ) (steps : I → Option (Result (T
       → Came text steps a (at (param_due d ps)) o)
   no_parameter w = blame (λ o u. λ d ps p. u (param_due d ps) (record {
     unfinished = refl;
-    stuck_at = λ t h e. passes _ (param_named d ps (name_at (lexeme text t))) _ e
+    stuck_at = λ t h e. passes _ (param_named d ps (name_of_token (lexeme text t))) _ e
         ∙ passes _ (params_read d ps) stuck (not_seen (kind.Operator sign.RightParenthesis) p h);
   })) w
 
@@ -119,7 +119,7 @@ module _ {X I : Type 0} {text : X → List ℕ} {steps : I → Option (Result (T
   pub annotation_fails : (opener : Opener) {a m : Reader X I} {t : Token X} {e : Fault}
       → Takes text steps can left a m t → t.kind ≡ kind.Operator opener
       → Blames e (λ o. (c : AnnotationPosition) → Came text steps m (at (part_due no_anns [] (ann_whole c))) o)
-      → Blames e (λ o. (st : State) (c : AnnotationPosition) (other : TokenKind → Turn)
+      → Blames e (λ o. (st : State) (c : AnnotationPosition) (other : TokenKind → Transition)
       → StandsBefore text a st (opens_ann opener c other) → Came text steps a (at st) o)
   annotation_fails opener {t = t} h k w = blame (λ o u. λ st c other x. goes_to (part_due no_anns [] (ann_whole c)) x h
       (takes (kind.Operator opener) t.kind (part_due no_anns [] (ann_whole c)) (other t.kind) k) o (u c)) w
@@ -148,32 +148,32 @@ module _ {X I : Type 0} {text : X → List ℕ} {steps : I → Option (Result (T
 
   module _ (a : Parser X I) {m : Reader X I} {name : RustName} (n : GivesName text steps can left a.reader m name) where
     named : (d : DefStart) (ps : List Param) → Onward text steps a.reader m (at (param_due d ps))
-        (at (param_named d ps (name_at (lexeme text n.token))))
-    named d ps = step_to (param_due d ps) (param_named d ps (name_at (lexeme text n.token))) n.takes
-        (ap (turn (param_due d ps) (lexeme text n.token)) n.is)
+        (at (param_named d ps (name_of_token (lexeme text n.token))))
+    named d ps = step_to (param_due d ps) (param_named d ps (name_of_token (lexeme text n.token))) n.takes
+        (ap (transition (param_due d ps) (lexeme text n.token)) n.is)
 
-    stands : (d : DefStart) (ps : List Param) → StandsBefore text m (param_named d ps (name_at (lexeme text n.token)))
-        (opens_ann sign.Colon (of_param d ps (name_at (lexeme text n.token)))
-        (param_more d ps (name_at (lexeme text n.token)) None))
-    stands d ps = stands_at (param_named d ps (name_at (lexeme text n.token)))
-        (opens_ann sign.Colon (of_param d ps (name_at (lexeme text n.token)))
-        (param_more d ps (name_at (lexeme text n.token)) None)) refl (λ t k. refl)
+    stands : (d : DefStart) (ps : List Param) → StandsBefore text m (param_named d ps (name_of_token (lexeme text n.token)))
+        (opens_ann sign.Colon (of_param d ps (name_of_token (lexeme text n.token)))
+        (param_more d ps (name_of_token (lexeme text n.token)) None))
+    stands d ps = stands_at (param_named d ps (name_of_token (lexeme text n.token)))
+        (opens_ann sign.Colon (of_param d ps (name_of_token (lexeme text n.token)))
+        (param_more d ps (name_of_token (lexeme text n.token)) None)) refl (λ t k. refl)
 
     pub its_annotation_fails : {e : Fault} → Blames e (λ o. (st : State) (c : AnnotationPosition)
-        (other : TokenKind → Turn) → StandsBefore text m st (opens_ann sign.Colon c other)
+        (other : TokenKind → Transition) → StandsBefore text m st (opens_ann sign.Colon c other)
         → Came text steps m (at st) o)
         → Blames e (λ o. (d : DefStart) (ps : List Param) → IsAhead (kind.Operator sign.RightParenthesis) a.reader.ahead
         ≡ false → Came text steps a.reader (at (param_due d ps)) o)
     its_annotation_fails w = blame (λ o u. λ d ps p. named d ps o
-        (u (param_named d ps (name_at (lexeme text n.token))) (of_param d ps (name_at (lexeme text n.token)))
-        (param_more d ps (name_at (lexeme text n.token)) None) (stands d ps))) w
+        (u (param_named d ps (name_of_token (lexeme text n.token))) (of_param d ps (name_of_token (lexeme text n.token)))
+        (param_more d ps (name_of_token (lexeme text n.token)) None) (stands d ps))) w
 
     module _ {q b : Parser X I} {ann : Option RustAnn} (same : q.reader ≡ m)
         (x : GivesOpened text steps can left sign.Colon q b ann) where
       behind : (d : DefStart) (ps : List Param) → LeadsTo text steps m b.reader
-          (param_named d ps (name_at (lexeme text n.token))) (param_more d ps (name_at (lexeme text n.token))
+          (param_named d ps (name_of_token (lexeme text n.token))) (param_more d ps (name_of_token (lexeme text n.token))
           x.annotation)
-      behind d ps = let N = name_at (lexeme text n.token) in
+      behind d ps = let N = name_of_token (lexeme text n.token) in
           let r : LeadsTo text steps q.reader b.reader (param_named d ps N)
           (or_ann (of_param d ps N) (param_more d ps N None) x.annotation) =
           x.leads (param_named d ps N) (of_param d ps N) (param_more d ps N None)
@@ -184,19 +184,19 @@ module _ {X I : Type 0} {text : X → List ℕ} {steps : I → Option (Result (T
           (or_ann (of_param d ps N) (param_more d ps N None) x.annotation)) same r)
           (λ t h. ann_more d ps N x.annotation t.kind)
 
-      pub its_default_fails : {e : Fault} → Blames e (λ o. (st : State) (c : LiteralContext) (other : TokenKind → Turn)
+      pub its_default_fails : {e : Fault} → Blames e (λ o. (st : State) (c : LiteralContext) (other : TokenKind → Transition)
           → StandsBefore text b.reader st (Rattle.pc_reader.specs.Internal.Literals.opens_literal c other)
           → Came text steps b.reader (at st) o)
           → Blames e (λ o. (d : DefStart) (ps : List Param) → IsAhead (kind.Operator sign.RightParenthesis)
           a.reader.ahead ≡ false → Came text steps a.reader (at (param_due d ps)) o)
-      its_default_fails w = blame (λ o u. λ d ps p. let N = name_at (lexeme text n.token) in let r = behind d ps in
+      its_default_fails w = blame (λ o u. λ d ps p. let N = name_of_token (lexeme text n.token) in let r = behind d ps in
           named d ps o (r.leads o (u r.behind (default_of_param d ps N x.annotation)
           (param_end d ps (param N x.annotation None)) r.stands))) w
 
       pub parameter_read : {f : Parser X I} {l : Option RustLiteral} → q.deep ≡ a.deep → f.deep ≡ b.deep
           → GivesDefault text steps can left b.reader f.reader l
           → GivesParam text steps can left a f (record { name = name; annotation = ann; default = l })
-      parameter_read {f = f} {l = l} qa fb y = let N = name_at (lexeme text n.token) in record {
+      parameter_read {f = f} {l = l} qa fb y = let N = name_of_token (lexeme text n.token) in record {
         parameter = param N x.annotation (option_literal_of l);
         keeps = record {
           deep = fb ∙ x.keeps.deep ∙ ap (λ z. deep_after z (optional_anns x.annotation)) qa;
@@ -233,7 +233,7 @@ module _ {X I : Type 0} {text : X → List ℕ} {steps : I → Option (Result (T
       ready = h.ready;
       later = omega (arith, h.later, later);
       leads = λ d o y. s.leads d o (step_to (param_due d s.params) (params_read d s.params) h
-          (ap (turn (param_due d s.params) (lexeme text t)) k) o y);
+          (ap (transition (param_due d s.params) (lexeme text t)) k) o y);
     }
 
     pub parameter_fails : {e : Fault} → IsAhead (kind.Operator sign.RightParenthesis) m.reader.ahead ≡ false

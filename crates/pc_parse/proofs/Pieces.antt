@@ -22,13 +22,13 @@ use Rattle.pc_tree.specs.declared.tree.Constant.{Constant as RustConstant}
 use Rattle.pc_tree.specs.Tree.{Name, Ann, Expr, Constant, Item, constant_item, class_item, def_item, no_anns, name_of}
 use Rattle.pc_tree.specs.Tree.{option_ann_of, expr_of, item_of}
 use Rattle.pc_tree.specs.Depth.{optional_anns, whole_expr, wholes_of_item, wholes_of_items}
-use Rattle.pc_grammar.specs.Grammar.{name_at}
-use Rattle.pc_grammar.specs.Machine.{Reading, at, turn, stop, short, reads}
+use Rattle.pc_grammar.specs.Grammar.{name_of_token}
+use Rattle.pc_grammar.specs.Machine.{Reading, at, transition, stop, short, reads}
 use Rattle.pc_grammar.specs.Machine.Kinds.{same_kind, a_kind}
 use Rattle.pc_grammar.specs.Machine.States.{after_headers, Top, of_module, AnnotationPosition, of_constant}
 use Rattle.pc_grammar.specs.Machine.States.{ExpressionPosition, in_constant, whole, ann_whole, part_due, State, fixed}
 use Rattle.pc_grammar.specs.Machine.States.{items, importing, item_named, decorator_due, def_due, operand, have, ended}
-use Rattle.pc_grammar.specs.Machine.States.{Turn, stuck, go, on}
+use Rattle.pc_grammar.specs.Machine.States.{Transition, stuck, go, on}
 use Rattle.pc_grammar.specs.Machine.Finishing.{add_item, at_line_end}
 use Rattle.pc_grammar.specs.Machine.Lines.{due, module_of as module_over}
 use Rattle.pc_grammar.specs.Fronts.Lines.{is_method}
@@ -51,7 +51,7 @@ use Rattle.pc_parse.proofs.Depths.{noted_more, none_before, kept_tree}
 use Rattle.pc_parse.proofs.Parameters.{kept_more}
 
 -- where `=` begins the value of a constant
-abbrev begins_value : Name → Option Ann → Top → TokenKind → Turn
+abbrev begins_value : Name → Option Ann → Top → TokenKind → Transition
 begins_value n a top k = on (same_kind k (kind.Operator sign.Equal)) (operand (whole (in_constant n a top))) stuck
 
 valued : (n : Name) (top : Top) (a : Option Ann) (k : TokenKind) → or_ann (of_constant n top) (begins_value n None top)
@@ -100,7 +100,7 @@ pub no_item : {X I : Type 0} (text : X → List ℕ) (a : Reader X I) (top : Top
     ≡ false → IsAhead (kind.Keyword word.Def) a.ahead ≡ false → NeedsKind text kind.Name (items after_headers top) a
 no_item text a top x y = record {
   unfinished = refl;
-  stuck_at = λ t h e. passes _ (item_named (name_at (lexeme text t)) top) _ e
+  stuck_at = λ t h e. passes _ (item_named (name_of_token (lexeme text t)) top) _ e
       ∙ passes _ (decorator_due t.place top) _ (not_seen (kind.Operator sign.At) x h)
       ∙ passes _ (def_due (of_module top) t.place) _ (not_seen (kind.Keyword word.Def) y h)
       ∙ no_header (same_kind t.kind (kind.Keyword word.From)) (importing after_headers top);
@@ -119,10 +119,10 @@ module _ {X I : Type 0} (text : X → List ℕ) (steps : I → Option (Result (T
       (λ t h. let k = kind_seen (kind.Operator sign.LeftParenthesis)
       (both_left (IsAhead (kind.Operator sign.LeftParenthesis) a.ahead) (bytes_eq n.text (codes "main")) e) h in
       let q = both_right (IsAhead (kind.Operator sign.LeftParenthesis) a.ahead) (bytes_eq n.text (codes "main")) e in
-      ap (turn (item_named n top) (lexeme text t)) k
+      ap (transition (item_named n top) (lexeme text t)) k
       ∙ ap (λ z. on z (fixed (a_kind (kind.Operator sign.RightParenthesis)) (a_kind kind.Newline ∷ a_kind kind.End ∷ [])
       (ended (module_over top n.place))) stuck) q
-      ∙ sym (ap (turn (fixed (a_kind (kind.Operator sign.LeftParenthesis))
+      ∙ sym (ap (transition (fixed (a_kind (kind.Operator sign.LeftParenthesis))
       (a_kind (kind.Operator sign.RightParenthesis) ∷ a_kind kind.Newline ∷ a_kind kind.End ∷ [])
       (ended (module_over top n.place))) (lexeme text t)) k))
 
@@ -148,7 +148,7 @@ module _ {X I : Type 0} {text : X → List ℕ} where
 
 pub constant_annotation_fails : {X I : Type 0} (text : X → List ℕ) (steps : I → Option (Result (Token X) Fault) → I
     → Type 0) (a : Reader X I) (n : Name) → IsNoLastLine a n → (e : Fault)
-    → Blames e (λ o. (st : State) (c : AnnotationPosition) (other : TokenKind → Turn)
+    → Blames e (λ o. (st : State) (c : AnnotationPosition) (other : TokenKind → Transition)
     → StandsBefore text a st (opens_ann sign.Colon c other) → Came text steps a (at st) o)
     → Blames e (λ o. (top : Top) → Came text steps a (at (item_named n top)) o)
 constant_annotation_fails text steps a n unlike e w = blame (λ o u. λ top. u (item_named n top) (of_constant n top)
@@ -250,7 +250,7 @@ module _ {X I : Type 0} {text : X → List ℕ} {steps : I → Option (Result (T
     ready = x.ready;
     later = omega (arith, x.later, h.later);
     leads = λ top o y. step_to (items after_headers top) (decorator_due t.place top) h
-        (ap (turn (items after_headers top) (lexeme text t)) k) o (x.leads t.place top o y);
+        (ap (transition (items after_headers top) (lexeme text t)) k) o (x.leads t.place top o y);
   }
 
   pub class_fails : {a m : Reader X I} {t : Token X} {e : Fault} → Takes text steps can left a m t
@@ -258,7 +258,7 @@ module _ {X I : Type 0} {text : X → List ℕ} {steps : I → Option (Result (T
       → Came text steps m (at (decorator_due first top)) o)
       → Blames e (λ o. (top : Top) → Came text steps a (at (items after_headers top)) o)
   class_fails {t = t} h k w = blame (λ o u. λ top. step_to (items after_headers top) (decorator_due t.place top) h
-      (ap (turn (items after_headers top) (lexeme text t)) k) o (u t.place top)) w
+      (ap (transition (items after_headers top) (lexeme text t)) k) o (u t.place top)) w
 
   pub function_as_item : (a p : Parser X I) {b : Parser X I} {t : Token X} {f : RustFuncDef}
       → Takes text steps can left a.reader p.reader t → t.kind ≡ kind.Keyword word.Def → p.deep ≡ a.deep
@@ -274,23 +274,23 @@ module _ {X I : Type 0} {text : X → List ℕ} {steps : I → Option (Result (T
     ready = x.ready;
     later = omega (arith, x.later, h.later);
     leads = λ top o y. step_to (items after_headers top) (def_due (of_module top) t.place) h
-        (ap (turn (items after_headers top) (lexeme text t)) k) o (x.leads (of_module top) t.place refl o y);
+        (ap (transition (items after_headers top) (lexeme text t)) k) o (x.leads (of_module top) t.place refl o y);
   }
 
   pub function_fails : {a m : Reader X I} {t : Token X} {e : Fault} → Takes text steps can left a m t
       → t.kind ≡ kind.Keyword word.Def
-      → Blames e (λ o. (owner : Rattle.pc_grammar.specs.Machine.States.Owner) (first : Place) → is_method owner ≡ false
+      → Blames e (λ o. (owner : Rattle.pc_grammar.specs.Machine.States.FunctionOwner) (first : Place) → is_method owner ≡ false
       → Came text steps m (at (def_due owner first)) o) → Blames e
       (λ o. (top : Top) → Came text steps a (at (items after_headers top)) o)
   function_fails {t = t} h k w = blame (λ o u. λ top. step_to (items after_headers top)
-      (def_due (of_module top) t.place) h (ap (turn (items after_headers top) (lexeme text t)) k) o
+      (def_due (of_module top) t.place) h (ap (transition (items after_headers top) (lexeme text t)) k) o
       (u (of_module top) t.place refl)) w
 
   module _ (a : Parser X I) {m : Reader X I} {name : RustName} (n : GivesName text steps can left a.reader m name) where
     named : (top : Top) → Onward text steps a.reader m (at (items after_headers top))
         (at (item_named (name_of name) top))
-    named top o y = step_to (items after_headers top) (item_named (name_at (lexeme text n.token)) top) n.takes
-        (ap (turn (items after_headers top) (lexeme text n.token)) n.is) o
+    named top o y = step_to (items after_headers top) (item_named (name_of_token (lexeme text n.token)) top) n.takes
+        (ap (transition (items after_headers top) (lexeme text n.token)) n.is) o
         (subst (λ z. Came text steps m (at (item_named z top)) o) n.name y)
 
     pub constant_fails : {e : Fault} → Blames e (λ o. (top : Top)

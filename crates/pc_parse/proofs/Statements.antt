@@ -10,7 +10,7 @@ use Rattle.pc_grammar.specs.Machine.Kinds.{same_kind, leads_out, lead_of, Follow
 use Rattle.pc_grammar.specs.Machine.Kinds.{no_ending}
 use Rattle.pc_grammar.specs.Machine.States.{Part, Block, Site, assigned, annotated_value, returned, asserted}
 use Rattle.pc_grammar.specs.Machine.States.{asserted_with, looping, iterating, branching, ExpressionPosition, in_line}
-use Rattle.pc_grammar.specs.Machine.States.{in_statement, in_constant, whole, State, Turn, stuck, go, on}
+use Rattle.pc_grammar.specs.Machine.States.{in_statement, in_constant, whole, State, Transition, stuck, go, on}
 use Rattle.pc_grammar.specs.Machine.Expressions.{left_of_link, have_turn}
 use Rattle.pc_grammar.specs.Machine.Finishing.{add_stmt, after_stmt, after_suite, at_line_end, at_colon}
 use Rattle.pc_grammar.specs.Machine.Finishing.{finish_condition}
@@ -102,11 +102,11 @@ pub suite_stuck : (done : Stmts) (b : Block) → done ≡ no_stmts → end_suite
 suite_stuck done b h = ap (λ z. end_suite z b) h
 
 -- where this token was seen, what follows in its place does not count
-pub on_seen : (b : Bool) (next : State) (x y : Turn) → b ≡ true → on b next x ≡ on b next y
+pub on_seen : (b : Bool) (next : State) (x y : Transition) → b ≡ true → on b next x ≡ on b next y
 on_seen b next x y h = ap (λ z. on z next x) h ∙ sym (ap (λ z. on z next y) h)
 
-pub on_unseen : (b : Bool) (next : State) (x : Turn) → b ≡ false → on b next x ≡ x
+pub on_unseen : (b : Bool) (next : State) (x : Transition) → b ≡ false → on b next x ≡ x
 on_unseen b next x h = ap (λ z. on z next x) h
 
-pub on_go : (b : Bool) (next : State) (x : Turn) → b ≡ true → on b next x ≡ go next
+pub on_go : (b : Bool) (next : State) (x : Transition) → b ≡ true → on b next x ≡ go next
 on_go b next x h = ap (λ z. on z next x) h

@@ -15,7 +15,7 @@ use Rattle.pc_token.specs.Lexeme.{Lexeme}
 use Rattle.pc_tree.specs.declared.keys.Keys.{Keys}
 use Rattle.pc_tree.specs.declared.tree.Item.{Item as RustItem}
 use Rattle.pc_tree.specs.Tree.{Item, Module}
-use Rattle.pc_grammar.specs.Machine.{Reading, at, turn, arrive, stop_at, short}
+use Rattle.pc_grammar.specs.Machine.{Reading, at, transition, arrive, stop_at, short}
 use Rattle.pc_grammar.specs.Machine.Kinds.{a_kind}
 use Rattle.pc_grammar.specs.Machine.Lines.{start, module_of as module_over}
 use Rattle.pc_grammar.specs.Machine.States.{State, fixed, ended, stuck}
@@ -36,7 +36,7 @@ unfolding another
 waits kind.Name = refl
 waits _ = refl
 
-refuses_it : (t : Lexeme) (k : TokenKind) → turn (another k) t k ≡ stuck
+refuses_it : (t : Lexeme) (k : TokenKind) → transition (another k) t k ≡ stuck
 unfolding another
 refuses_it t kind.Name = refl
 refuses_it t (kind.Keyword word.In) = refl
@@ -63,7 +63,7 @@ module _ {X I : Type 0} (text : X → List ℕ) (steps : I → Option (Result (T
           (sym (ap (λ z. arrive z (lexeme text t)) (refuses_it (lexeme text t) t.kind))) o
           (u (another t.kind) (record {
             unfinished = waits t.kind;
-            stuck_at = λ v h. subst (λ (z : Token X). turn (another t.kind) (lexeme text z) z.kind ≡ stuck)
+            stuck_at = λ v h. subst (λ (z : Token X). transition (another t.kind) (lexeme text z) z.kind ≡ stuck)
                 (same_token (sym q ∙ h)) (refuses_it (lexeme text t) t.kind);
           }))) w
 

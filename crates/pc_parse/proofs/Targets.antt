@@ -6,17 +6,17 @@ use Rattle.pc_tree.specs.NamesAlone.{name_of_tree}
 use Rattle.pc_grammar.specs.Machine.States.{Part}
 use Rattle.pc_grammar.specs.Machine.Finishing.{if_plain, target_of_tree}
 use Rattle.pc_reader.specs.declared.operand.Operand.{Operand}
-use Rattle.pc_reader.specs.Internal.Operands.{a_name, another, form_of, KeepsPart}
+use Rattle.pc_reader.specs.Internal.Operands.{a_name, another, form_of_expr, KeepsPart}
 
 -- ---- targets
 
-formed : (e : Expr) (t : Target) → target_of_tree e ≡ Some t → form_of e ≡ another → ⊥
+formed : (e : Expr) (t : Target) → target_of_tree e ≡ Some t → form_of_expr e ≡ another → ⊥
 formed (name n) t h f = cc
 formed (attribute p x n) t h f = cc
 formed (index p x i) t h f = cc
 formed _ t h f = cc
 
-unformed : (e : Expr) → target_of_tree e ≡ None → form_of e ≡ another
+unformed : (e : Expr) → target_of_tree e ≡ None → form_of_expr e ≡ another
 unformed (name n) h = cc
 unformed (attribute p x n) h = cc
 unformed (index p x i) h = cc
@@ -28,24 +28,24 @@ pub record IsTarget (e : Expr) (plain : Bool) : Type 0 where
   pub is : if_plain plain (target_of_tree e) ≡ Some tree
   pub whole_is : whole_target tree ≡ whole_expr e
 
-target_by_form : (e e' : Expr) (t : Target) → form_of e ≡ form_of e' → target_of_tree e ≡ Some t → IsTarget e' true
+target_by_form : (e e' : Expr) (t : Target) → form_of_expr e ≡ form_of_expr e' → target_of_tree e ≡ Some t → IsTarget e' true
 target_by_form e (name n) t f h = record { tree = to_name n; is = refl; whole_is = refl }
 target_by_form e (attribute p x n) t f h = record { tree = to_attribute p x n; is = refl; whole_is = refl }
 target_by_form e (index p x i) t f h = record { tree = to_index p x i; is = refl; whole_is = refl }
 target_by_form e _ t f h = absurd (formed e t h f)
 
-none_by_form : (e e' : Expr) → form_of e ≡ form_of e' → target_of_tree e ≡ None → target_of_tree e' ≡ None
+none_by_form : (e e' : Expr) → form_of_expr e ≡ form_of_expr e' → target_of_tree e ≡ None → target_of_tree e' ≡ None
 none_by_form e (name n) f h = let q = unformed e h in cc
 none_by_form e (attribute p x n) f h = let q = unformed e h in cc
 none_by_form e (index p x i) f h = let q = unformed e h in cc
 none_by_form e _ f h = refl
 
-target_plain : (plain : Bool) (e e' : Expr) (t : Target) → form_of e ≡ form_of e' → if_plain plain (target_of_tree e)
+target_plain : (plain : Bool) (e e' : Expr) (t : Target) → form_of_expr e ≡ form_of_expr e' → if_plain plain (target_of_tree e)
     ≡ Some t → IsTarget e' plain
 target_plain true e e' t f h = target_by_form e e' t f h
 target_plain false e e' t f h = cc
 
-none_plain : (plain : Bool) (e e' : Expr) → form_of e ≡ form_of e' → if_plain plain (target_of_tree e) ≡ None
+none_plain : (plain : Bool) (e e' : Expr) → form_of_expr e ≡ form_of_expr e' → if_plain plain (target_of_tree e) ≡ None
     → if_plain plain (target_of_tree e') ≡ None
 none_plain true e e' f h = none_by_form e e' f h
 none_plain false e e' f h = refl
@@ -72,17 +72,17 @@ same_target o p t i k h e = some (sym h ∙ ap (λ z. if_plain z (target_of_tree
 
 -- ---- names
 
-named_form : (e : Expr) (n : Name) → name_of_tree e ≡ Some n → form_of e ≡ a_name n
+named_form : (e : Expr) (n : Name) → name_of_tree e ≡ Some n → form_of_expr e ≡ a_name n
 named_form (name m) n h = cc
 named_form _ n h = cc
 
-unnamed : (e : Expr) (n : Name) → name_of_tree e ≡ None → form_of e ≡ a_name n → ⊥
+unnamed : (e : Expr) (n : Name) → name_of_tree e ≡ None → form_of_expr e ≡ a_name n → ⊥
 unnamed (name m) n h f = cc
 unnamed (attribute p x m) n h f = cc
 unnamed (index p x i) n h f = cc
 unnamed _ n h f = cc
 
-by_form : (e : Expr) (n : Name) → form_of e ≡ a_name n → e ≡ name n
+by_form : (e : Expr) (n : Name) → form_of_expr e ≡ a_name n → e ≡ name n
 by_form (name m) n f = cc
 by_form (attribute p x m) n f = cc
 by_form (index p x i) n f = cc
@@ -93,13 +93,13 @@ pub record IsName (e : Expr) (plain : Bool) (n : Name) : Type 0 where
   pub is : if_plain plain (name_of_tree e) ≡ Some n
   pub tree : e ≡ name n
 
-name_plain : (plain : Bool) (e e' : Expr) (n : Name) → form_of e ≡ form_of e' → if_plain plain (name_of_tree e) ≡ Some n
+name_plain : (plain : Bool) (e e' : Expr) (n : Name) → form_of_expr e ≡ form_of_expr e' → if_plain plain (name_of_tree e) ≡ Some n
     → IsName e' plain n
 name_plain true e e' n f h = let q : e' ≡ name n = by_form e' n (sym f ∙ named_form e n h) in
     record { is = ap name_of_tree q; tree = q }
 name_plain false e e' n f h = cc
 
-no_name_plain : (plain : Bool) (e e' : Expr) → form_of e ≡ form_of e' → if_plain plain (name_of_tree e) ≡ None
+no_name_plain : (plain : Bool) (e e' : Expr) → form_of_expr e ≡ form_of_expr e' → if_plain plain (name_of_tree e) ≡ None
     → if_plain plain (name_of_tree e') ≡ None
 no_name_plain true e (name n) f h = absurd (unnamed e n h f)
 no_name_plain true e _ f h = refl

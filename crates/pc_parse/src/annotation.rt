@@ -16,7 +16,7 @@ ghost use Rattle.pc_parse.specs.Internal.Annotations.{KeepsAnn, KeepsAnns, Makes
 ghost use Rattle.pc_parse.specs.Internal.Annotations.{ReadsApplied};
 
 use crate::parser::Parser;
-use pc_reader::{Reader, above, deeper};
+use pc_reader::{Reader, deeper, depth_above};
 use pc_source::{Fault, Place};
 use pc_token::{Keyword, Operator, Token, TokenKind};
 use pc_tree::{Ann, Name, put_last};
@@ -57,7 +57,7 @@ impl Annotations {
             (λ _. (rest : Anns) (a : AnnTree) (ts : List Lexeme) → KeepsAnns self.old rest → KeepsAnn annotation a ts
             → KeepsAnns self.new (add_ann rest a)) (λ e. e ≡ fault.OutOfMemory) }
     {
-        self.depth = deeper(self.depth, above(annotation.depth));
+        self.depth = deeper(self.depth, depth_above(annotation.depth));
         put_last(&mut self.anns, annotation.ann)?;
         Ok(())
     }

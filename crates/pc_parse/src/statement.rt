@@ -35,20 +35,20 @@ pub(crate) enum Lead {
 
 /// A statement of one word.
 #[derive(Clone, Copy, Debug)]
-pub(crate) enum Word {
+pub(crate) enum OneWordStatement {
     Pass,
     Break,
     Continue,
 }
 
 /// Returns the statement that is this word.
-fn kind_of_word(word: Word) -> StmtKind
+fn kind_of_word(word: OneWordStatement) -> StmtKind
     ensures { result ≡ kind_of_word word }
 {
     match word {
-        Word::Pass => StmtKind::Pass,
-        Word::Break => StmtKind::Break,
-        Word::Continue => StmtKind::Continue,
+        OneWordStatement::Pass => StmtKind::Pass,
+        OneWordStatement::Break => StmtKind::Break,
+        OneWordStatement::Continue => StmtKind::Continue,
     }
 }
 
@@ -107,7 +107,7 @@ impl<X: AsStr + Drop, I: Iterator<Item = Result<Token<X>, Fault>> + Drop> Parser
     }
 
     /// Reads `pass`, `break` or `continue`, and the end of the line.
-    pub(crate) fn word(&mut self, word: Word) -> Result<Stmt, Fault>
+    pub(crate) fn word(&mut self, word: OneWordStatement) -> Result<Stmt, Fault>
         requires { IsReady I.can_next I.remaining self.old.reader }
         ensures { ReadsStmt X.text I.next_gives I.can_next I.remaining
             (λ _. HasWord X.text (kind_of_word word) self.old) self.old self.new result }

@@ -5,7 +5,7 @@ ghost use Rattle.pc_reader.specs.Reading.{IsReady};
 ghost use Rattle.pc_parse.specs.Internal.Suites.{MayGoOn, HasLead, ReadsSuite, ReadsStmt, ReadsHeaded, ReadsElse};
 
 use crate::parser::Parser;
-use crate::statement::{Lead, Word};
+use crate::statement::{Lead, OneWordStatement};
 use pc_source::Fault;
 use pc_token::{Keyword, Operator, Token, TokenKind};
 use pc_tree::{Branch, Expr, Stmt, StmtKind, put_last};
@@ -40,9 +40,9 @@ impl<X: AsStr + Drop, I: Iterator<Item = Result<Token<X>, Fault>> + Drop> Parser
             (λ done. MayGoOn done self.old) self.old self.new result }
     {
         match self.lead() {
-            Lead::Pass => self.word(Word::Pass),
-            Lead::Break => self.word(Word::Break),
-            Lead::Continue => self.word(Word::Continue),
+            Lead::Pass => self.word(OneWordStatement::Pass),
+            Lead::Break => self.word(OneWordStatement::Break),
+            Lead::Continue => self.word(OneWordStatement::Continue),
             Lead::Return => self.returned(alloc),
             Lead::Assert => self.asserted(alloc),
             Lead::While => self.while_loop(alloc),

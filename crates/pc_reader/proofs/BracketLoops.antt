@@ -9,7 +9,7 @@ use Rattle.pc_token.specs.Lexeme.{Lexeme}
 use Rattle.pc_tree.specs.Tree.{Name, Expr, Exprs, Entries as EntryTrees, Keywords as KeywordTrees, no_keywords}
 use Rattle.pc_grammar.specs.Grammar.{first_place}
 use Rattle.pc_grammar.specs.Machine.{at}
-use Rattle.pc_grammar.specs.Machine.States.{Head, Stack, operand, item_due, key_due, naming}
+use Rattle.pc_grammar.specs.Machine.States.{BracketPurpose, Stack, operand, item_due, key_due, naming}
 use Rattle.pc_reader.specs.declared.reader.Reader.{Reader}
 use Rattle.pc_reader.specs.declared.items.Items.{Items}
 use Rattle.pc_reader.specs.declared.items.Entries.{Entries}
@@ -21,7 +21,7 @@ use Rattle.pc_reader.specs.Reading.{IsAhead, Onward}
 module _ {X I : Type 0} (text : X → List ℕ) (steps : I → Option (Result (Token X) Fault) → I → Type 0)
     (can : I → Type 0) (left : I → Count) where
   -- items after those that stood before the loop, if those were kept
-  pub record ElementsSoFar (kept : Type 0) (a b : Reader X I) (now : Items) (h : Head) (xs : Exprs)
+  pub record ElementsSoFar (kept : Type 0) (a b : Reader X I) (now : Items) (h : BracketPurpose) (xs : Exprs)
       (ts : List Lexeme) : Type 0 where
     pub items : Exprs
     pub more : List Lexeme

@@ -8,13 +8,13 @@ use Rattle.pc_tree.specs.declared.tree.Name.{Name as RustName}
 use Rattle.pc_tree.specs.Tree.{Expr, name, attribute, index, Name, name_of, expr_of}
 use Rattle.pc_tree.specs.Depth.{depth_of, place_of}
 use Rattle.pc_tree.specs.NamesAlone.{name_of_tree}
-use Rattle.pc_grammar.specs.Grammar.{first_place, last_place, span, name_at}
+use Rattle.pc_grammar.specs.Grammar.{first_place, last_place, span, name_of_token}
 use Rattle.pc_grammar.specs.Machine.Kinds.{Infix, arithmetic, comparison, both, either}
 use Rattle.pc_grammar.specs.Machine.States.{Part}
 use Rattle.pc_grammar.specs.Machine.Expressions.{infix_tree, grouped}
 use Rattle.pc_grammar.specs.Machine.Finishing.{if_plain}
 use Rattle.pc_reader.specs.declared.operand.Operand.{Operand}
-use Rattle.pc_reader.specs.Internal.Operands.{Starts, Ends, Form, a_name, another, form_of, KeepsPart, Builds, node_of}
+use Rattle.pc_reader.specs.Internal.Operands.{Starts, Ends, Form, a_name, another, form_of_expr, KeepsPart, Builds, node_of}
 
 pub starts_more : {ts : List Lexeme} {n : ℕ} (us : List Lexeme) → Starts ts n → Starts (ts ++ us) n
 starts_more us s = record { head = s.head; tail = s.tail ++ us; is = ap (λ z. z ++ us) s.is; start = s.start }
@@ -56,7 +56,7 @@ pub builds : (o : Operand) (make : Place → Expr) (a b deep : ℕ) → o.start 
     → ((p : Place) → (place_of (make p)).start ≡ p.start) → ((p : Place) → depth_of (make p) ≡ deep)
     → o.depth ≡ min 65 deep
     → (o.depth ≤ 64 → expr_of o.expr ≡ make (record { start = a; end = b }))
-    → ((p : Place) → form_of (expr_of o.expr) ≡ form_of (make p))
+    → ((p : Place) → form_of_expr (expr_of o.expr) ≡ form_of_expr (make p))
     → Builds o make a b
 builds o make a b deep oa ob of op pl dp d k f ts s e =
     let p = span_is s e in record {
@@ -82,7 +82,7 @@ infix_depth (comparison o) l r p = refl
 infix_depth both l r p = refl
 infix_depth either l r p = refl
 
-pub infix_form : (op : Infix) (l r : Expr) (p : Place) → form_of (infix_tree op l r p) ≡ another
+pub infix_form : (op : Infix) (l r : Expr) (p : Place) → form_of_expr (infix_tree op l r p) ≡ another
 infix_form (arithmetic o) l r p = refl
 infix_form (comparison o) l r p = refl
 infix_form both l r p = refl
@@ -99,7 +99,7 @@ capped_max d e n m h k = omega arith
 pub built : (expr : RustExpr) (level depth deep a b : ℕ) (make : Place → Expr)
     → ((p : Place) → (place_of (make p)).start ≡ p.start) → ((p : Place) → depth_of (make p) ≡ deep)
     → depth ≡ min 65 deep → (depth ≤ 64 → expr_of expr ≡ make (record { start = a; end = b }))
-    → ((p : Place) → form_of (expr_of expr) ≡ form_of (make p))
+    → ((p : Place) → form_of_expr (expr_of expr) ≡ form_of_expr (make p))
     → Builds (node_of expr (record { start = a; end = b }) level depth) make a b
 built expr level depth deep a b make pl dp d k f = builds (node_of expr (record { start = a; end = b }) level depth)
     make a b deep refl refl refl refl pl dp d k f
@@ -114,7 +114,7 @@ pub built_one : (o : Operand) (p : Part) (inner expr : RustExpr) (level depth a 
     → KeepsPart o p
     → ((t : Expr) (q : Place) → (place_of (make t q)).start ≡ q.start)
     → ((t : Expr) (q : Place) → depth_of (make t q) ≡ depth_of t + 1)
-    → ((t u : Expr) (q r : Place) → form_of (make t q) ≡ form_of (make u r))
+    → ((t u : Expr) (q r : Place) → form_of_expr (make t q) ≡ form_of_expr (make u r))
     → depth ≡ min 65 (o.depth + 1) → (depth ≤ 64 → inner ≡ o.expr)
     → expr_of expr ≡ make (expr_of inner) (record { start = a; end = b })
     → Builds (node_of expr (record { start = a; end = b }) level depth) (make p.tree) a b
@@ -123,14 +123,14 @@ built_one o p inner expr level depth a b make k pl dp fm d f e =
     (let q = k.depth in omega arith)
     (λ h. e ∙ ap (λ z. make z (record { start = a; end = b })) (part_kept o p inner depth (o.depth + 1) k d
     (omega arith) f h))
-    (λ q. ap form_of e ∙ fm (expr_of inner) p.tree _ q)
+    (λ q. ap form_of_expr e ∙ fm (expr_of inner) p.tree _ q)
 
 -- a node over two parts
 pub built_two : (o o' : Operand) (p p' : Part) (first second expr : RustExpr) (level depth a b : ℕ)
     (make : Expr → Expr → Place → Expr) → KeepsPart o p → KeepsPart o' p'
     → ((t t' : Expr) (q : Place) → (place_of (make t t' q)).start ≡ q.start)
     → ((t t' : Expr) (q : Place) → depth_of (make t t' q) ≡ max (depth_of t) (depth_of t') + 1)
-    → ((t t' u u' : Expr) (q r : Place) → form_of (make t t' q) ≡ form_of (make u u' r))
+    → ((t t' u u' : Expr) (q r : Place) → form_of_expr (make t t' q) ≡ form_of_expr (make u u' r))
     → depth ≡ min 65 (max o.depth o'.depth + 1) → (depth ≤ 64 → first ≡ o.expr) → (depth ≤ 64 → second ≡ o'.expr)
     → expr_of expr ≡ make (expr_of first) (expr_of second) (record { start = a; end = b })
     → Builds (node_of expr (record { start = a; end = b }) level depth) (make p.tree p'.tree) a b
@@ -141,7 +141,7 @@ built_two o o' p p' first second expr level depth a b make k k' pl dp fm d f f' 
     (part_kept o p first depth (max o.depth o'.depth + 1) k d (omega arith) f h)
     ∙ ap (λ z. make p.tree z (record { start = a; end = b })) (part_kept o' p' second depth (max o.depth o'.depth + 1)
     k' d (omega arith) f' h))
-    (λ q. ap form_of e ∙ fm (expr_of first) (expr_of second) p.tree p'.tree _ q)
+    (λ q. ap form_of_expr e ∙ fm (expr_of first) (expr_of second) p.tree p'.tree _ q)
 
 -- parentheses around an operand
 pub keeps_grouped : (o : Operand) (p : Part) (t u : Lexeme) → KeepsPart o p
@@ -162,7 +162,7 @@ abbrev name_in : Form → Option Name
 name_in (a_name n) = Some n
 name_in _ = None
 
-name_by_form : (e : Expr) → name_of_tree e ≡ name_in (form_of e)
+name_by_form : (e : Expr) → name_of_tree e ≡ name_in (form_of_expr e)
 name_by_form (name n) = refl
 name_by_form (attribute p e f) = refl
 name_by_form (index p e i) = refl
@@ -174,5 +174,5 @@ named_alike {o} {p} k = ap (λ z. if_plain z (name_of_tree p.tree)) (sym k.plain
     ∙ ap (λ z. if_plain o.plain z) (name_by_form p.tree ∙ ap name_in (sym k.form) ∙ sym (name_by_form (expr_of o.expr)))
 
 -- a name ends where its token does
-pub name_ends : (n : RustName) (t : Lexeme) → name_of n ≡ name_at t → Ends (t ∷ []) n.place.end
+pub name_ends : (n : RustName) (t : Lexeme) → name_of n ≡ name_of_token t → Ends (t ∷ []) n.place.end
 name_ends n t e = record { before = []; last = t; is = refl; end = sym (ap (λ (z : Name). z.place.end) e) }

@@ -9,14 +9,14 @@ use Rattle.pc_token.specs.declared.token.Operator.{Operator as Bracket}
 use Rattle.pc_token.specs.declared.token.Operator.TheVariants as sign
 use Rattle.pc_token.specs.Lexeme.{Lexeme}
 use Rattle.pc_tree.specs.Tree.{Name, Expr, Exprs, Entries, Keywords}
-use Rattle.pc_grammar.specs.Machine.{turn}
+use Rattle.pc_grammar.specs.Machine.{transition}
 use Rattle.pc_grammar.specs.Machine.Kinds.{same_kind, Ending, a_comma, a_colon, an_equal, closes_parenthesis}
 use Rattle.pc_grammar.specs.Machine.Kinds.{closes_bracket, closes_brace, a_line_end, no_ending, Follow, link, a_dot}
 use Rattle.pc_grammar.specs.Machine.Kinds.{calls}
 use Rattle.pc_grammar.specs.Machine.Kinds.{indexes, ends, follow_of}
-use Rattle.pc_grammar.specs.Machine.States.{Part, Head, in_tuple, in_list, in_call, Stack, listing, have, stuck, go}
+use Rattle.pc_grammar.specs.Machine.States.{Part, BracketPurpose, in_tuple, in_list, in_call, Stack, listing, have, stuck, go}
 use Rattle.pc_grammar.specs.Machine.Finishing.{add_expr}
-use Rattle.pc_grammar.specs.Machine.Expressions.{left_of_link, reduce, part, head_tree, closer, close, close_group}
+use Rattle.pc_grammar.specs.Machine.Expressions.{left_of_link, reduce, bare_part, head_tree, closer, close, close_group}
 use Rattle.pc_grammar.specs.Machine.Expressions.{close_item, close_index, close_keyword, close_key, close_value}
 use Rattle.pc_grammar.specs.Machine.Expressions.{have_turn}
 use Rattle.pc_reader.specs.declared.reader.Reader.{Reader}
@@ -113,16 +113,16 @@ value_unended es x ts s p t k a b a_comma i = cc
 value_unended es x ts s p t k a b closes_brace i = cc
 value_unended es x ts s p t k a b _ i = refl
 
-pub closer_is : (h : Head) (o : Bracket) → Closes h o → closer h ≡ kind.Operator o
+pub closer_is : (h : BracketPurpose) (o : Bracket) → Closes h o → closer h ≡ kind.Operator o
 closer_is in_tuple o c = ap (λ z. kind.Operator z) (sym c)
 closer_is in_list o c = ap (λ z. kind.Operator z) (sym c)
 closer_is (in_call e) o c = absurd c
 
-pub not_closer : {X : Type 0} (a : Option (Token X)) (h : Head) (o : Bracket) → Closes h o → IsAhead (kind.Operator o) a
+pub not_closer : {X : Type 0} (a : Option (Token X)) (h : BracketPurpose) (o : Bracket) → Closes h o → IsAhead (kind.Operator o) a
     ≡ false → IsAhead (closer h) a ≡ false
 not_closer a h o c n = ap (λ z. IsAhead z a) (closer_is h o c) ∙ n
 
-pub item_unended : (h : Head) (o : Bracket) (xs : Exprs) (ts : List Lexeme) (s : Stack) (p : Part) (t : Lexeme)
+pub item_unended : (h : BracketPurpose) (o : Bracket) (xs : Exprs) (ts : List Lexeme) (s : Stack) (p : Part) (t : Lexeme)
     (k : TokenKind) → Closes h o → same_kind k (kind.Operator sign.Comma) ≡ false → same_kind k (kind.Operator o)
     ≡ false
     → (e : Ending) → IsEnding k e → close_item h xs ts s p t e ≡ stuck
@@ -153,10 +153,10 @@ argument_unended x xs ts s p t k a b c _ i = refl
 
 -- ---- the closing bracket
 
-pub item_closes : (h : Head) (level : ℕ) (xs : Exprs) (ts : List Lexeme) (s : Stack) (p : Part) (t : Lexeme)
+pub item_closes : (h : BracketPurpose) (level : ℕ) (xs : Exprs) (ts : List Lexeme) (s : Stack) (p : Part) (t : Lexeme)
     (k : TokenKind) → k ≡ closer h
-    → turn (have level p (listing h xs ts s)) t k
-    ≡ go (have 7 (part (head_tree h (add_expr xs p.tree)) (ts ++ (p.tokens ++ (t ∷ [])))) s)
-item_closes in_tuple level xs ts s p t k e = ap (turn (have level p (listing in_tuple xs ts s)) t) e
-item_closes in_list level xs ts s p t k e = ap (turn (have level p (listing in_list xs ts s)) t) e
-item_closes (in_call x) level xs ts s p t k e = ap (turn (have level p (listing (in_call x) xs ts s)) t) e
+    → transition (have level p (listing h xs ts s)) t k
+    ≡ go (have 7 (bare_part (head_tree h (add_expr xs p.tree)) (ts ++ (p.tokens ++ (t ∷ [])))) s)
+item_closes in_tuple level xs ts s p t k e = ap (transition (have level p (listing in_tuple xs ts s)) t) e
+item_closes in_list level xs ts s p t k e = ap (transition (have level p (listing in_list xs ts s)) t) e
+item_closes (in_call x) level xs ts s p t k e = ap (transition (have level p (listing (in_call x) xs ts s)) t) e

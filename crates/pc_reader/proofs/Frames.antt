@@ -7,8 +7,8 @@ use Rattle.pc_token.specs.Lexeme.{Lexeme}
 use Rattle.pc_tree.specs.declared.tree.BinaryOperator.TheVariants.{Add, Sub, Mul, FloorDiv, Mod}
 use Rattle.pc_grammar.specs.Machine.Kinds.{Infix, arithmetic, comparison, both, either, Link, linking, denying}
 use Rattle.pc_grammar.specs.Machine.Kinds.{identifying, Follow, link, a_dot, calls, indexes, ends}
-use Rattle.pc_grammar.specs.Machine.States.{Part, Prefix, Stack, joining, applying, Turn, stuck, on}
-use Rattle.pc_grammar.specs.Machine.Expressions.{own_of, right_of, own_of_link, left_of_link, prefix_level, rank}
+use Rattle.pc_grammar.specs.Machine.States.{Part, Prefix, Stack, joining, applying, Transition, stuck, on}
+use Rattle.pc_grammar.specs.Machine.Expressions.{own_of, right_of, own_of_link, left_of_link, prefix_level, needed_level}
 use Rattle.pc_grammar.specs.Machine.Expressions.{joined}
 use Rattle.pc_grammar.specs.Machine.Expressions.{applied, reduce, after_link, if_tight, have_turn}
 use Rattle.pc_reader.specs.Internal.Expressions.{Over, Undotted}
@@ -27,13 +27,13 @@ is_le a b h = by_tells (leb_tells a b)
     by_tells (inl x) = x.0
     by_tells (inr x) = absurd (let y = x.1 in omega arith)
 
-pub loose : (low level : ℕ) (x : Turn) → level < low → if_tight low level x ≡ stuck
+pub loose : (low level : ℕ) (x : Transition) → level < low → if_tight low level x ≡ stuck
 loose low level x h = ap (λ z. if z then x else stuck) (not_le low level h)
 
-pub tight : (low level : ℕ) (x : Turn) → low ≤ level → if_tight low level x ≡ x
+pub tight : (low level : ℕ) (x : Transition) → low ≤ level → if_tight low level x ≡ x
 tight low level x h = ap (λ z. if z then x else stuck) (is_le low level h)
 
-frame : (own need level : ℕ) (l : Link) (t : Lexeme) (x y : (p : Part) × Stack) → rank y.1 ≡ need → own ≤ level
+frame : (own need level : ℕ) (l : Link) (t : Lexeme) (x y : (p : Part) × Stack) → needed_level y.1 ≡ need → own ≤ level
     → (left_of_link l ≤ level → own < left_of_link l → own_of_link l < need)
     → if_tight (left_of_link l) level (after_link l t (if nat_le (left_of_link l) own then x else y))
     ≡ if_tight (left_of_link l) own (after_link l t x)
@@ -56,7 +56,7 @@ frame own need level l t x y r h g = by_tells (leb_tells (left_of_link l) own) (
         ap (λ z. if_tight (left_of_link l) level (after_link l t (if z then x else y))) e.0
         ∙ tight (left_of_link l) level (after_link l t y) w
         ∙ ap (λ z. on z (Rattle.pc_grammar.specs.Machine.Expressions.linked l t y.0 y.1) stuck)
-        (not_le (rank y.1) (own_of_link l) (let v = g w q in omega (arith, r)))
+        (not_le (needed_level y.1) (own_of_link l) (let v = g w q in omega (arith, r)))
         ∙ sym (loose (left_of_link l) own (after_link l t x) q)
     by_tells (inr e) (inr d) = loose (left_of_link l) level _ d.1
         ∙ sym (loose (left_of_link l) own (after_link l t x) e.1)

@@ -9,12 +9,12 @@ use Rattle.pc_token.specs.declared.token.Operator.TheVariants as sign
 use Rattle.pc_token.specs.Lexeme.{Lexeme}
 use Rattle.pc_tree.specs.Tree.{Exprs, no_exprs, Entries, tuple, dict, call, no_keywords}
 use Rattle.pc_grammar.specs.Grammar.{first_place}
-use Rattle.pc_grammar.specs.Machine.{at, turn}
-use Rattle.pc_grammar.specs.Machine.Kinds.{start_of}
-use Rattle.pc_grammar.specs.Machine.States.{Part, Head, in_call, Stack, grouping, listing, keying, State, operand, have}
+use Rattle.pc_grammar.specs.Machine.{at, transition}
+use Rattle.pc_grammar.specs.Machine.Kinds.{operand_start}
+use Rattle.pc_grammar.specs.Machine.States.{Part, BracketPurpose, in_call, Stack, grouping, listing, keying, State, operand, have}
 use Rattle.pc_grammar.specs.Machine.States.{group_due, item_due, key_due, on}
 use Rattle.pc_grammar.specs.Machine.Finishing.{add_expr}
-use Rattle.pc_grammar.specs.Machine.Expressions.{rank, part, head_tree, closer, call_part, operand_turn}
+use Rattle.pc_grammar.specs.Machine.Expressions.{needed_level, bare_part, head_tree, closer, call_part, operand_turn}
 use Rattle.pc_reader.specs.declared.reader.Reader.{Reader}
 use Rattle.pc_reader.specs.declared.operand.Operand.{Operand}
 use Rattle.pc_reader.specs.declared.items.Items.{Items}
@@ -22,7 +22,7 @@ use Rattle.pc_reader.specs.declared.items.Listed.{Listed}
 use Rattle.pc_reader.specs.Internal.Brackets.{KeepsItems}
 use Rattle.pc_reader.specs.Internal.Operands.{KeepsPart, Builds, Starts}
 use Rattle.pc_reader.specs.Reading.{lexeme, IsAhead, Came, Onward, Takes, IsReady, left_in}
-use Rattle.pc_reader.specs.Internal.Expressions.{Gives, OperandGoesOn, ListsOn}
+use Rattle.pc_reader.specs.Internal.Expressions.{GivesOperand, OperandGoesOn, ListsOn}
 use Rattle.pc_reader.proofs.BracketLoops.{ElementsSoFar}
 use Rattle.pc_reader.proofs.Endings.{item_closes}
 use Rattle.pc_reader.proofs.Building.{first_more, starts_more, ends_more, ends_one}
@@ -31,27 +31,27 @@ use Rattle.pc_reader.proofs.Steps.{step_to, alike, not_seen}
 
 module _ {X I : Type 0} (text : X → List ℕ) (steps : I → Option (Result (Token X) Fault) → I → Type 0) where
   -- where a bracket is not closed at once, something begins in it
-  pub item_begins : (a : Reader X I) (h : Head) (xs : Exprs) (ts : List Lexeme) (s : Stack) → IsAhead (closer h) a.ahead
+  pub item_begins : (a : Reader X I) (h : BracketPurpose) (xs : Exprs) (ts : List Lexeme) (s : Stack) → IsAhead (closer h) a.ahead
       ≡ false
       → Onward text steps a a (at (item_due h xs ts s)) (at (operand (listing h xs ts s)))
   item_begins a h xs ts s n = alike text steps a (item_due h xs ts s) (operand (listing h xs ts s)) refl refl
-      (λ t e. ap (λ z. on z (have 7 (part (head_tree h xs) (ts ++ ((lexeme text t) ∷ []))) s)
-      (operand_turn (listing h xs ts s) (lexeme text t) (start_of t.kind))) (not_seen (closer h) n e))
+      (λ t e. ap (λ z. on z (have 7 (bare_part (head_tree h xs) (ts ++ ((lexeme text t) ∷ []))) s)
+      (operand_turn (listing h xs ts s) (lexeme text t) (operand_start t.kind))) (not_seen (closer h) n e))
 
   pub group_begins : (a : Reader X I) (ts : List Lexeme) (s : Stack) → IsAhead (kind.Operator sign.RightParenthesis)
       a.ahead ≡ false
       → Onward text steps a a (at (group_due ts s)) (at (operand (grouping ts s)))
   group_begins a ts s n = alike text steps a (group_due ts s) (operand (grouping ts s)) refl refl
-      (λ t e. ap (λ z. on z (have 7 (part (λ p. tuple p no_exprs) (ts ++ ((lexeme text t) ∷ []))) s)
-      (operand_turn (grouping ts s) (lexeme text t) (start_of t.kind)))
+      (λ t e. ap (λ z. on z (have 7 (bare_part (λ p. tuple p no_exprs) (ts ++ ((lexeme text t) ∷ []))) s)
+      (operand_turn (grouping ts s) (lexeme text t) (operand_start t.kind)))
       (not_seen (kind.Operator sign.RightParenthesis) n e))
 
   pub key_begins : (a : Reader X I) (es : Entries) (ts : List Lexeme) (s : Stack)
       → IsAhead (kind.Operator sign.RightBrace) a.ahead ≡ false
       → Onward text steps a a (at (key_due es ts s)) (at (operand (keying es ts s)))
   key_begins a es ts s n = alike text steps a (key_due es ts s) (operand (keying es ts s)) refl refl
-      (λ t e. ap (λ z. on z (have 7 (part (λ p. dict p es) (ts ++ ((lexeme text t) ∷ []))) s)
-      (operand_turn (keying es ts s) (lexeme text t) (start_of t.kind)))
+      (λ t e. ap (λ z. on z (have 7 (bare_part (λ p. dict p es) (ts ++ ((lexeme text t) ∷ []))) s)
+      (operand_turn (keying es ts s) (lexeme text t) (operand_start t.kind)))
       (not_seen (kind.Operator sign.RightBrace) n e))
 
   -- the same tokens
@@ -62,7 +62,7 @@ module _ {X I : Type 0} (text : X → List ℕ) (steps : I → Option (Result (T
 module _ {X I : Type 0} (text : X → List ℕ) (steps : I → Option (Result (Token X) Fault) → I → Type 0)
     (can : I → Type 0) (left : I → Count) where
   -- before the first item
-  pub items_none : {K : Type 0} (a : Reader X I) (now : Items) (h : Head) (xs : Exprs) (ts : List Lexeme)
+  pub items_none : {K : Type 0} (a : Reader X I) (now : Items) (h : BracketPurpose) (xs : Exprs) (ts : List Lexeme)
       → (K → KeepsItems now xs) → ElementsSoFar text steps can left K a a now h xs ts
   items_none a now h xs ts f = record {
     items = xs;
@@ -72,19 +72,19 @@ module _ {X I : Type 0} (text : X → List ℕ) (steps : I → Option (Result (T
   }
 
   -- an item after those before it
-  pub item_read : {K : Type 0} {a b c : Reader X I} {now : Items} {h : Head} {xs : Exprs} {ts : List Lexeme}
+  pub item_read : {K : Type 0} {a b c : Reader X I} {now : Items} {h : BracketPurpose} {xs : Exprs} {ts : List Lexeme}
       {o : Operand} (v : ElementsSoFar text steps can left K a b now h xs ts) (s : Stack) → IsAhead (closer h) b.ahead
       ≡ false
-      → (q : Gives text steps can left (λ s. rank s ≡ 0) 0 b c o) → Onward text steps a c (at (item_due h xs ts s))
+      → (q : GivesOperand text steps can left (λ s. needed_level s ≡ 0) 0 b c o) → Onward text steps a c (at (item_due h xs ts s))
       (at (have o.level q.part (listing h v.items (ts ++ v.more) s)))
   item_read {b = b} {h = h} {ts = ts} v s n q r x = v.leads s r
       (item_begins text steps b h v.items (ts ++ v.more) s n r (q.leads (listing h v.items (ts ++ v.more) s) refl r x))
 
   -- with a comma after it
-  pub item_more : {K : Type 0} {a b c d : Reader X I} {now now' : Items} {h : Head} {xs : Exprs} {ts : List Lexeme}
+  pub item_more : {K : Type 0} {a b c d : Reader X I} {now now' : Items} {h : BracketPurpose} {xs : Exprs} {ts : List Lexeme}
       {o : Operand} {t : Token X} (v : ElementsSoFar text steps can left K a b now h xs ts) → IsAhead (closer h) b.ahead
       ≡ false
-      → (q : Gives text steps can left (λ s. rank s ≡ 0) 0 b c o)
+      → (q : GivesOperand text steps can left (λ s. needed_level s ≡ 0) 0 b c o)
       → ((es : Exprs) (p : Part) → KeepsItems now es → KeepsPart o p → KeepsItems now' (add_expr es p.tree))
       → Takes text steps can left c d t → t.kind ≡ kind.Operator sign.Comma → ElementsSoFar text steps can left K a d
       now' h xs ts
@@ -94,16 +94,16 @@ module _ {X I : Type 0} (text : X → List ℕ) (steps : I → Option (Result (T
     keeps = λ z. f v.items q.part (v.keeps z) q.keeps;
     leads = λ s r x. item_read v s n q r (step_to (have o.level q.part (listing h v.items (ts ++ v.more) s))
         (item_due h (add_expr v.items q.part.tree) ((ts ++ v.more) ++ (q.part.tokens ++ (lexeme text t ∷ []))) s) k
-        (ap (turn (have o.level q.part (listing h v.items (ts ++ v.more) s)) (lexeme text t)) e) r
+        (ap (transition (have o.level q.part (listing h v.items (ts ++ v.more) s)) (lexeme text t)) e) r
         (regroup text steps d (λ z. item_due h (add_expr v.items q.part.tree) z s) ts v.more
         (q.part.tokens ++ (lexeme text t ∷ [])) r x));
   }
 
   -- with the closing bracket after it
-  pub item_last : {K : Type 0} {a b c d : Reader X I} {now now' : Items} {h : Head} {xs : Exprs} {ts : List Lexeme}
+  pub item_last : {K : Type 0} {a b c d : Reader X I} {now now' : Items} {h : BracketPurpose} {xs : Exprs} {ts : List Lexeme}
       {o : Operand} {t : Token X} (v : ElementsSoFar text steps can left K a b now h xs ts) → IsAhead (closer h) b.ahead
       ≡ false
-      → (q : Gives text steps can left (λ s. rank s ≡ 0) 0 b c o)
+      → (q : GivesOperand text steps can left (λ s. needed_level s ≡ 0) 0 b c o)
       → ((es : Exprs) (p : Part) → KeepsItems now es → KeepsPart o p → KeepsItems now' (add_expr es p.tree))
       → Takes text steps can left c d t → t.kind ≡ closer h → K → ListsOn text steps can left a d
       (record { items = now'; end = t.place.end }) h xs ts
@@ -113,15 +113,15 @@ module _ {X I : Type 0} (text : X → List ℕ) (steps : I → Option (Result (T
     keeps = f v.items q.part (v.keeps z) q.keeps;
     ends = ends_more v.more (ends_more q.part.tokens (ends_one (lexeme text t)));
     leads = λ s r x. item_read v s n q r (step_to (have o.level q.part (listing h v.items (ts ++ v.more) s))
-        (have 7 (part (head_tree h (add_expr v.items q.part.tree))
+        (have 7 (bare_part (head_tree h (add_expr v.items q.part.tree))
         ((ts ++ v.more) ++ (q.part.tokens ++ (lexeme text t ∷ [])))) s) k
         (item_closes h o.level v.items (ts ++ v.more) s q.part (lexeme text t) t.kind e) r
-        (regroup text steps d (λ y. have 7 (part (head_tree h (add_expr v.items q.part.tree)) y) s) ts v.more
+        (regroup text steps d (λ y. have 7 (bare_part (head_tree h (add_expr v.items q.part.tree)) y) s) ts v.more
         (q.part.tokens ++ (lexeme text t ∷ [])) r x));
   }
 
   -- with the closing bracket and no further item
-  pub items_end : {K : Type 0} {a b c : Reader X I} {now : Items} {h : Head} {xs : Exprs} {ts : List Lexeme}
+  pub items_end : {K : Type 0} {a b c : Reader X I} {now : Items} {h : BracketPurpose} {xs : Exprs} {ts : List Lexeme}
       {t : Token X} (v : ElementsSoFar text steps can left K a b now h xs ts)
       → Takes text steps can left b c t → t.kind ≡ closer h → K → ListsOn text steps can left a c
       (record { items = now; end = t.place.end }) h xs ts
@@ -131,29 +131,29 @@ module _ {X I : Type 0} (text : X → List ℕ) (steps : I → Option (Result (T
     keeps = v.keeps z;
     ends = ends_more v.more (ends_one (lexeme text t));
     leads = λ s r x. v.leads s r (step_to (item_due h v.items (ts ++ v.more) s)
-        (have 7 (part (head_tree h v.items) ((ts ++ v.more) ++ (lexeme text t ∷ []))) s) k
-        (ap (λ y. on y (have 7 (part (head_tree h v.items) ((ts ++ v.more) ++ (lexeme text t ∷ []))) s)
-        (operand_turn (listing h v.items (ts ++ v.more) s) (lexeme text t) (start_of t.kind)))
+        (have 7 (bare_part (head_tree h v.items) ((ts ++ v.more) ++ (lexeme text t ∷ []))) s) k
+        (ap (λ y. on y (have 7 (bare_part (head_tree h v.items) ((ts ++ v.more) ++ (lexeme text t ∷ []))) s)
+        (operand_turn (listing h v.items (ts ++ v.more) s) (lexeme text t) (operand_start t.kind)))
         (is_same t.kind (closer h) e)) r
-        (regroup text steps c (λ y. have 7 (part (head_tree h v.items) y) s) ts v.more (lexeme text t ∷ []) r x));
+        (regroup text steps c (λ y. have 7 (bare_part (head_tree h v.items) y) s) ts v.more (lexeme text t ∷ []) r x));
   }
 
   -- the contents of a bracket, as an operand
-  pub bracketed : {fits : Stack → Type 0} {a b c : Reader X I} {l : Listed} {made : Operand} {start : ℕ} (h : Head)
+  pub bracketed : {fits : Stack → Type 0} {a b c : Reader X I} {l : Listed} {made : Operand} {start : ℕ} (h : BracketPurpose)
       (xs : Exprs) (ts : List Lexeme) (n : ListsOn text steps can left b c l h xs ts) → Starts ts start
       → ((t : Token X) → a.ahead ≡ Some t → first_place ts ≡ t.place)
       → ((s : Stack) → fits s → Onward text steps a b (at (operand s)) (at (item_due h xs ts s)))
       → made.level ≡ 7 → ((es : Exprs) → KeepsItems l.items es → Builds made (λ p. head_tree h es p) start l.end)
-      → IsReady can left c → left_in left c < left_in left a → Gives text steps can left fits 7 a c made
+      → IsReady can left c → left_in left c < left_in left a → GivesOperand text steps can left fits 7 a c made
   bracketed {c = c} h xs ts n st bg f lv k rd lt = record {
-    part = part (λ p. head_tree h n.items p) (ts ++ n.more);
+    bare_part = bare_part (λ p. head_tree h n.items p) (ts ++ n.more);
     keeps = k n.items n.keeps (ts ++ n.more) (starts_more n.more st) (ends_more ts n.ends);
     low = omega (arith, lv);
     ready = rd;
     later = lt;
     begins = λ t e. first_more n.more st ∙ bg t e;
     leads = λ s r o x. f s r o
-        (n.leads s o (subst (λ z. Came text steps c (at (have z (part (λ p. head_tree h n.items p) (ts ++ n.more)) s))
+        (n.leads s o (subst (λ z. Came text steps c (at (have z (bare_part (λ p. head_tree h n.items p) (ts ++ n.more)) s))
         o) lv x));
   }
 
@@ -164,7 +164,7 @@ module _ {X I : Type 0} (text : X → List ℕ) (steps : I → Option (Result (T
       → OperandGoesOn text steps can left (λ t p s. item_due (in_call p.tree) no_exprs (p.tokens ++ (t ∷ [])) s) 7 a b
       callee made t p
   called_with t p k n f = record {
-    part = call_part p.tree n.items no_keywords ((p.tokens ++ (t ∷ [])) ++ n.more);
+    bare_part = call_part p.tree n.items no_keywords ((p.tokens ++ (t ∷ [])) ++ n.more);
     keeps = f n.items n.keeps _ (starts_more n.more (starts_more (t ∷ []) k.starts))
         (ends_more (p.tokens ++ (t ∷ [])) n.ends);
     begins = first_more n.more (starts_more (t ∷ []) k.starts) ∙ first_more (t ∷ []) k.starts;

@@ -15,9 +15,9 @@ use Rattle.pc_tree.specs.declared.tree.Literal.{Literal as RustLiteral}
 use Rattle.pc_tree.specs.declared.tree.LiteralKind.TheVariants as rust
 use Rattle.pc_tree.specs.Tree.{number_literal, negative_literal, text_literal, literal_of}
 use Rattle.pc_grammar.specs.Grammar.{span, digits_of, characters_of}
-use Rattle.pc_grammar.specs.Machine.{at, turn}
+use Rattle.pc_grammar.specs.Machine.{at, transition}
 use Rattle.pc_grammar.specs.Machine.Kinds.{same_kind}
-use Rattle.pc_grammar.specs.Machine.States.{LiteralContext, State, literal_due, minus_read, literal_read, Turn, stuck}
+use Rattle.pc_grammar.specs.Machine.States.{LiteralContext, State, literal_due, minus_read, literal_read, Transition, stuck}
 use Rattle.pc_grammar.specs.Machine.States.{go}
 use Rattle.pc_grammar.specs.Machine.Finishing.{finish_literal}
 use Rattle.pc_grammar.specs.Machine.Lines.{literal_turn}
@@ -101,7 +101,7 @@ module _ {X I : Type 0} {text : X → List ℕ} {steps : I → Option (Result (T
     later = h.later;
     leads = λ c. step_to (minus_read c (u ∷ [])) (literal_read c
         (negative_literal (record { start = u.place.start; end = t.place.end }) (string_bytes digits))) h
-        (ap (turn (minus_read c (u ∷ [])) (lexeme text t)) k
+        (ap (transition (minus_read c (u ∷ [])) (lexeme text t)) k
         ∙ ap (λ z. go (literal_read c (negative_literal (record { start = u.place.start; end = t.place.end }) z)))
         (sym e));
   }
@@ -115,10 +115,10 @@ module _ {X I : Type 0} {text : X → List ℕ} {steps : I → Option (Result (T
     ready = x.ready;
     later = omega (arith, x.later, h.later);
     leads = λ c o y. step_to (literal_due c) (minus_read c (lexeme text t ∷ [])) h
-        (ap (turn (literal_due c) (lexeme text t)) k) o (x.leads c o y);
+        (ap (transition (literal_due c) (lexeme text t)) k) o (x.leads c o y);
   }
   after_minus {t = t} b h k (Err e) x = blame (λ o w. λ c. step_to (literal_due c) (minus_read c (lexeme text t ∷ [])) h
-      (ap (turn (literal_due c) (lexeme text t)) k) o (w c)) x
+      (ap (transition (literal_due c) (lexeme text t)) k) o (w c)) x
 
   -- ---- a default that may be left out
 
@@ -134,7 +134,7 @@ module _ {X I : Type 0} {text : X → List ℕ} {steps : I → Option (Result (T
   pub default_fails : {a m : Reader X I} {t : Token X} {e : Fault} → Takes text steps can left a m t
       → t.kind ≡ kind.Operator sign.Equal → Blames e (λ o. (c : LiteralContext)
       → Came text steps m (at (literal_due c)) o)
-      → Blames e (λ o. (st : State) (c : LiteralContext) (other : TokenKind → Turn)
+      → Blames e (λ o. (st : State) (c : LiteralContext) (other : TokenKind → Transition)
       → StandsBefore text a st (opens_literal c other) → Came text steps a (at st) o)
   default_fails {t = t} h k w = blame (λ o u. λ st c other x. goes_to (literal_due c) x h
       (takes (kind.Operator sign.Equal) t.kind (literal_due c) (other t.kind) k) o (u c)) w

@@ -11,20 +11,20 @@ use Rattle.pc_token.specs.Lexeme.{Lexeme}
 use Rattle.pc_tree.specs.declared.tree.Name.{Name as RustName}
 use Rattle.pc_tree.specs.Tree.{Name, Expr, Exprs, Keywords as KeywordTrees, no_keywords, name_of}
 use Rattle.pc_tree.specs.NamesAlone.{name_of_tree}
-use Rattle.pc_grammar.specs.Grammar.{name_at}
-use Rattle.pc_grammar.specs.Machine.{at, turn}
+use Rattle.pc_grammar.specs.Grammar.{name_of_token}
+use Rattle.pc_grammar.specs.Machine.{at, transition}
 use Rattle.pc_grammar.specs.Machine.Kinds.{same_kind}
 use Rattle.pc_grammar.specs.Machine.States.{Part, in_call, Stack, listing, naming, operand, have, keyword_due}
 use Rattle.pc_grammar.specs.Machine.States.{keyword_named, go, on, stuck}
 use Rattle.pc_grammar.specs.Machine.Finishing.{add_keyword, if_plain}
-use Rattle.pc_grammar.specs.Machine.Expressions.{rank, begin_keyword, call_part}
+use Rattle.pc_grammar.specs.Machine.Expressions.{needed_level, begin_keyword, call_part}
 use Rattle.pc_reader.specs.declared.reader.Reader.{Reader}
 use Rattle.pc_reader.specs.declared.operand.Operand.{Operand}
 use Rattle.pc_reader.specs.declared.items.Keywords.{Keywords}
 use Rattle.pc_reader.specs.Internal.Brackets.{KeepsKeywords}
 use Rattle.pc_reader.specs.Internal.Operands.{KeepsPart}
 use Rattle.pc_reader.specs.Reading.{lexeme, IsAhead, Came, Onward, Takes, NeedsKind}
-use Rattle.pc_reader.specs.Internal.Expressions.{Gives, GivesName, NamesOn}
+use Rattle.pc_reader.specs.Internal.Expressions.{GivesOperand, GivesName, NamesOn}
 use Rattle.pc_reader.proofs.BracketLoops.{NamesSoFar}
 use Rattle.pc_reader.proofs.Building.{ends_more, ends_one}
 use Rattle.pc_reader.proofs.Listing.{regroup}
@@ -36,7 +36,7 @@ pub needs_name : {X I : Type 0} (text : X → List ℕ) (e : Expr) (xs : Exprs) 
     → NeedsKind text kind.Name (keyword_due e xs ks ts s) a
 needs_name text e xs ks ts s a n = record {
   unfinished = refl;
-  stuck_at = λ t h f. ap (λ z. on z (keyword_named e xs ks (name_at (lexeme text t)) (ts ++ (lexeme text t ∷ [])) s)
+  stuck_at = λ t h f. ap (λ z. on z (keyword_named e xs ks (name_of_token (lexeme text t)) (ts ++ (lexeme text t ∷ [])) s)
       (on (same_kind t.kind (kind.Operator sign.RightParenthesis))
       (have 7 (call_part e xs ks (ts ++ (lexeme text t ∷ []))) s) stuck)) f
       ∙ ap (λ z. on z (have 7 (call_part e xs ks (ts ++ (lexeme text t ∷ []))) s) stuck)
@@ -46,16 +46,16 @@ needs_name text e xs ks ts s a n = record {
 -- an argument that is a name, and `=` after it
 pub keyword_begins : (level : ℕ) (e : Expr) (xs : Exprs) (ts : List Lexeme) (s : Stack) (p : Part) (n : Name)
     (t : Lexeme) (k : TokenKind) → if_plain p.plain (name_of_tree p.tree) ≡ Some n → k ≡ kind.Operator sign.Equal
-    → turn (have level p (listing (in_call e) xs ts s)) t k ≡ go
+    → transition (have level p (listing (in_call e) xs ts s)) t k ≡ go
     (operand (naming e xs no_keywords n (ts ++ (p.tokens ++ (t ∷ []))) s))
-keyword_begins level e xs ts s p n t k f h = ap (turn (have level p (listing (in_call e) xs ts s)) t) h
+keyword_begins level e xs ts s p n t k f h = ap (transition (have level p (listing (in_call e) xs ts s)) t) h
     ∙ ap (λ z. begin_keyword z e xs (ts ++ (p.tokens ++ (t ∷ []))) s) f
 
 -- an argument that is no name, and `=` after it
 pub keyword_stuck : (level : ℕ) (e : Expr) (xs : Exprs) (ts : List Lexeme) (s : Stack) (p : Part) (t : Lexeme)
     (k : TokenKind) → if_plain p.plain (name_of_tree p.tree) ≡ None → k ≡ kind.Operator sign.Equal
-    → turn (have level p (listing (in_call e) xs ts s)) t k ≡ stuck
-keyword_stuck level e xs ts s p t k f h = ap (turn (have level p (listing (in_call e) xs ts s)) t) h
+    → transition (have level p (listing (in_call e) xs ts s)) t k ≡ stuck
+keyword_stuck level e xs ts s p t k f h = ap (transition (have level p (listing (in_call e) xs ts s)) t) h
     ∙ ap (λ z. begin_keyword z e xs (ts ++ (p.tokens ++ (t ∷ []))) s) f
 
 module _ {X I : Type 0} (text : X → List ℕ) (steps : I → Option (Result (Token X) Fault) → I → Type 0)
@@ -74,7 +74,7 @@ module _ {X I : Type 0} (text : X → List ℕ) (steps : I → Option (Result (T
   -- the value of an argument
   pub argument_read : {a b c : Reader X I} {first name : Name} {now : Keywords} {e : Expr} {xs : Exprs}
       {ts : List Lexeme} {o : Operand} (v : NamesSoFar text steps can left a b first now name e xs ts) (s : Stack)
-      → (q : Gives text steps can left (λ s. rank s ≡ 0) 0 b c o)
+      → (q : GivesOperand text steps can left (λ s. needed_level s ≡ 0) 0 b c o)
       → Onward text steps a c (at (operand (naming e xs no_keywords first ts s)))
       (at (have o.level q.part (naming e xs v.arguments name (ts ++ v.more) s)))
   argument_read {name = name} {e = e} {xs = xs} {ts = ts} v s q r x =
@@ -84,7 +84,7 @@ module _ {X I : Type 0} (text : X → List ℕ) (steps : I → Option (Result (T
   pub argument_more : {a b c d : Reader X I} {first name : Name} {now : Keywords} {e : Expr} {xs : Exprs}
       {ts : List Lexeme} {o : Operand} {t : Token X} (v : NamesSoFar text steps can left a b first now name e xs ts)
       (s : Stack)
-      → (q : Gives text steps can left (λ s. rank s ≡ 0) 0 b c o) → Takes text steps can left c d t
+      → (q : GivesOperand text steps can left (λ s. needed_level s ≡ 0) 0 b c o) → Takes text steps can left c d t
       → t.kind ≡ kind.Operator sign.Comma
       → Onward text steps a d (at (operand (naming e xs no_keywords first ts s)))
       (at (keyword_due e xs (add_keyword v.arguments name q.part.tree)
@@ -93,14 +93,14 @@ module _ {X I : Type 0} (text : X → List ℕ) (steps : I → Option (Result (T
       (step_to (have o.level q.part (naming e xs v.arguments name (ts ++ v.more) s))
       (keyword_due e xs (add_keyword v.arguments name q.part.tree)
       ((ts ++ v.more) ++ (q.part.tokens ++ (lexeme text t ∷ []))) s) h
-      (ap (turn (have o.level q.part (naming e xs v.arguments name (ts ++ v.more) s)) (lexeme text t)) i) r
+      (ap (transition (have o.level q.part (naming e xs v.arguments name (ts ++ v.more) s)) (lexeme text t)) i) r
       (regroup text steps d (λ z. keyword_due e xs (add_keyword v.arguments name q.part.tree) z s) ts v.more
       (q.part.tokens ++ (lexeme text t ∷ [])) r x))
 
   -- with the closing parenthesis after the value
   pub argument_last : {a b c d : Reader X I} {first name : Name} {now now' : Keywords} {e : Expr} {xs : Exprs}
       {ts : List Lexeme} {o : Operand} {t : Token X} (v : NamesSoFar text steps can left a b first now name e xs ts)
-      → (q : Gives text steps can left (λ s. rank s ≡ 0) 0 b c o)
+      → (q : GivesOperand text steps can left (λ s. needed_level s ≡ 0) 0 b c o)
       → ((ks : KeywordTrees) (p : Part) → KeepsKeywords now ks → KeepsPart o p
       → KeepsKeywords now' (add_keyword ks name p.tree))
       → Takes text steps can left c d t → t.kind ≡ kind.Operator sign.RightParenthesis
@@ -114,7 +114,7 @@ module _ {X I : Type 0} (text : X → List ℕ) (steps : I → Option (Result (T
         (step_to (have o.level q.part (naming e xs v.arguments name (ts ++ v.more) s))
         (have 7 (call_part e xs (add_keyword v.arguments name q.part.tree)
         ((ts ++ v.more) ++ (q.part.tokens ++ (lexeme text t ∷ [])))) s) h
-        (ap (turn (have o.level q.part (naming e xs v.arguments name (ts ++ v.more) s)) (lexeme text t)) i) r
+        (ap (transition (have o.level q.part (naming e xs v.arguments name (ts ++ v.more) s)) (lexeme text t)) i) r
         (regroup text steps d (λ z. have 7 (call_part e xs (add_keyword v.arguments name q.part.tree) z) s) ts v.more
         (q.part.tokens ++ (lexeme text t ∷ [])) r x));
   }
@@ -122,7 +122,7 @@ module _ {X I : Type 0} (text : X → List ℕ) (steps : I → Option (Result (T
   -- with the closing parenthesis after a comma
   pub arguments_end : {a b c d f : Reader X I} {first name : Name} {now now' : Keywords} {e : Expr} {xs : Exprs}
       {ts : List Lexeme} {o : Operand} {t u : Token X} (v : NamesSoFar text steps can left a b first now name e xs ts)
-      → (q : Gives text steps can left (λ s. rank s ≡ 0) 0 b c o)
+      → (q : GivesOperand text steps can left (λ s. needed_level s ≡ 0) 0 b c o)
       → ((ks : KeywordTrees) (p : Part) → KeepsKeywords now ks → KeepsPart o p
       → KeepsKeywords now' (add_keyword ks name p.tree))
       → Takes text steps can left c d t → t.kind ≡ kind.Operator sign.Comma → Takes text steps can left d f u
@@ -138,7 +138,7 @@ module _ {X I : Type 0} (text : X → List ℕ) (steps : I → Option (Result (T
         (ts ++ (v.more ++ (q.part.tokens ++ (lexeme text t ∷ [])))) s)
         (have 7 (call_part e xs (add_keyword v.arguments name q.part.tree)
         ((ts ++ (v.more ++ (q.part.tokens ++ (lexeme text t ∷ [])))) ++ (lexeme text u ∷ []))) s) k
-        (ap (turn (keyword_due e xs (add_keyword v.arguments name q.part.tree)
+        (ap (transition (keyword_due e xs (add_keyword v.arguments name q.part.tree)
         (ts ++ (v.more ++ (q.part.tokens ++ (lexeme text t ∷ [])))) s) (lexeme text u)) l) r
         (regroup text steps f (λ z. have 7 (call_part e xs (add_keyword v.arguments name q.part.tree) z) s) ts
         (v.more ++ (q.part.tokens ++ (lexeme text t ∷ []))) (lexeme text u ∷ []) r x));
@@ -148,7 +148,7 @@ module _ {X I : Type 0} (text : X → List ℕ) (steps : I → Option (Result (T
   pub name_read : {a b c d f : Reader X I} {first name : Name} {now : Keywords} {e : Expr} {xs : Exprs}
       {ts : List Lexeme} {o : Operand} {t : Token X} {n : RustName}
       (v : NamesSoFar text steps can left a b first now name e xs ts) (s : Stack)
-      → (q : Gives text steps can left (λ s. rank s ≡ 0) 0 b c o) → Takes text steps can left c d t
+      → (q : GivesOperand text steps can left (λ s. needed_level s ≡ 0) 0 b c o) → Takes text steps can left c d t
       → t.kind ≡ kind.Operator sign.Comma → (w : GivesName text steps can left d f n)
       → Onward text steps a f (at (operand (naming e xs no_keywords first ts s)))
       (at (keyword_named e xs (add_keyword v.arguments name q.part.tree) (name_of n)
@@ -158,7 +158,7 @@ module _ {X I : Type 0} (text : X → List ℕ) (steps : I → Option (Result (T
       (ts ++ (v.more ++ (q.part.tokens ++ (lexeme text t ∷ [])))) s)
       (keyword_named e xs (add_keyword v.arguments name q.part.tree) (name_of n)
       ((ts ++ (v.more ++ (q.part.tokens ++ (lexeme text t ∷ [])))) ++ (lexeme text w.token ∷ [])) s) w.takes
-      (ap (turn (keyword_due e xs (add_keyword v.arguments name q.part.tree)
+      (ap (transition (keyword_due e xs (add_keyword v.arguments name q.part.tree)
       (ts ++ (v.more ++ (q.part.tokens ++ (lexeme text t ∷ [])))) s) (lexeme text w.token)) w.is
       ∙ ap (λ z. go (keyword_named e xs (add_keyword v.arguments name q.part.tree) z
       ((ts ++ (v.more ++ (q.part.tokens ++ (lexeme text t ∷ [])))) ++ (lexeme text w.token ∷ [])) s)) (sym w.name))
@@ -168,7 +168,7 @@ module _ {X I : Type 0} (text : X → List ℕ) (steps : I → Option (Result (T
   pub names_more : {a b c d f g : Reader X I} {first name : Name} {now now' : Keywords} {e : Expr} {xs : Exprs}
       {ts : List Lexeme} {o : Operand} {t u : Token X} {n : RustName}
       (v : NamesSoFar text steps can left a b first now name e xs ts)
-      → (q : Gives text steps can left (λ s. rank s ≡ 0) 0 b c o)
+      → (q : GivesOperand text steps can left (λ s. needed_level s ≡ 0) 0 b c o)
       → ((ks : KeywordTrees) (p : Part) → KeepsKeywords now ks → KeepsPart o p
       → KeepsKeywords now' (add_keyword ks name p.tree))
       → Takes text steps can left c d t → t.kind ≡ kind.Operator sign.Comma → GivesName text steps can left d f n
@@ -184,7 +184,7 @@ module _ {X I : Type 0} (text : X → List ℕ) (steps : I → Option (Result (T
         (operand (naming e xs (add_keyword v.arguments name q.part.tree) (name_of n)
         (((ts ++ (v.more ++ (q.part.tokens ++ (lexeme text t ∷ [])))) ++ (lexeme text w.token ∷ []))
         ++ (lexeme text u ∷ [])) s)) k
-        (ap (turn (keyword_named e xs (add_keyword v.arguments name q.part.tree) (name_of n)
+        (ap (transition (keyword_named e xs (add_keyword v.arguments name q.part.tree) (name_of n)
         ((ts ++ (v.more ++ (q.part.tokens ++ (lexeme text t ∷ [])))) ++ (lexeme text w.token ∷ [])) s)
         (lexeme text u)) l) r
         (regroup text steps g (λ z. operand (naming e xs (add_keyword v.arguments name q.part.tree) (name_of n) z s))

@@ -7,18 +7,18 @@ use Rattle.pc_token.specs.declared.token.Token.{Token}
 use Rattle.pc_token.specs.declared.token.TokenKind.TheVariants as kind
 use Rattle.pc_token.specs.declared.token.Operator.TheVariants as sign
 use Rattle.pc_tree.specs.Tree.{Entries as EntryTrees, dict}
-use Rattle.pc_grammar.specs.Machine.{at, turn}
-use Rattle.pc_grammar.specs.Machine.Kinds.{start_of}
+use Rattle.pc_grammar.specs.Machine.{at, transition}
+use Rattle.pc_grammar.specs.Machine.Kinds.{operand_start}
 use Rattle.pc_grammar.specs.Machine.States.{Part, Stack, keying, valuing, operand, have, key_due, on}
 use Rattle.pc_grammar.specs.Machine.Finishing.{add_entry}
-use Rattle.pc_grammar.specs.Machine.Expressions.{rank, part, operand_turn}
+use Rattle.pc_grammar.specs.Machine.Expressions.{needed_level, bare_part, operand_turn}
 use Rattle.pc_reader.specs.declared.reader.Reader.{Reader}
 use Rattle.pc_reader.specs.declared.operand.Operand.{Operand}
 use Rattle.pc_reader.specs.declared.items.Entries.{Entries}
 use Rattle.pc_reader.specs.Internal.Brackets.{KeepsEntries}
 use Rattle.pc_reader.specs.Internal.Operands.{KeepsPart, Builds}
 use Rattle.pc_reader.specs.Reading.{lexeme, IsAhead, Came, Onward, Takes, left_in}
-use Rattle.pc_reader.specs.Internal.Expressions.{Gives}
+use Rattle.pc_reader.specs.Internal.Expressions.{GivesOperand}
 use Rattle.pc_reader.proofs.BracketLoops.{EntriesSoFar}
 use Rattle.pc_reader.proofs.Building.{first_more, starts_more, ends_more, ends_one}
 use Rattle.pc_reader.proofs.Listing.{key_begins}
@@ -30,7 +30,7 @@ module _ {X I : Type 0} (text : X → List ℕ) (steps : I → Option (Result (T
   pub key_read : {a b c : Reader X I} {start : ℕ} {now : Entries} {o : Operand}
       (v : EntriesSoFar text steps can left a b start now) (s : Stack) → IsAhead (kind.Operator sign.LeftBrace) a.ahead
       ≡ true → IsAhead (kind.Operator sign.RightBrace) b.ahead ≡ false
-      → (q : Gives text steps can left (λ s. rank s ≡ 0) 0 b c o)
+      → (q : GivesOperand text steps can left (λ s. needed_level s ≡ 0) 0 b c o)
       → Onward text steps a c (at (operand s)) (at (have o.level q.part (keying v.entries v.tokens s)))
   key_read {b = b} v s f n q r x = v.leads s f r (key_begins text steps b v.entries v.tokens s n r
       (q.leads (keying v.entries v.tokens s) refl r x))
@@ -38,20 +38,20 @@ module _ {X I : Type 0} (text : X → List ℕ) (steps : I → Option (Result (T
   pub value_due : {a b c d : Reader X I} {start : ℕ} {now : Entries} {o : Operand} {t : Token X}
       (v : EntriesSoFar text steps can left a b start now) (s : Stack) → IsAhead (kind.Operator sign.LeftBrace) a.ahead
       ≡ true → IsAhead (kind.Operator sign.RightBrace) b.ahead ≡ false
-      → (q : Gives text steps can left (λ s. rank s ≡ 0) 0 b c o) → Takes text steps can left c d t
+      → (q : GivesOperand text steps can left (λ s. needed_level s ≡ 0) 0 b c o) → Takes text steps can left c d t
       → t.kind ≡ kind.Operator sign.Colon
       → Onward text steps a d (at (operand s))
       (at (operand (valuing v.entries q.part.tree (v.tokens ++ (q.part.tokens ++ (lexeme text t ∷ []))) s)))
   value_due {o = o} {t = t} v s f n q k e r x = key_read v s f n q r
       (step_to (have o.level q.part (keying v.entries v.tokens s))
       (operand (valuing v.entries q.part.tree (v.tokens ++ (q.part.tokens ++ (lexeme text t ∷ []))) s)) k
-      (ap (turn (have o.level q.part (keying v.entries v.tokens s)) (lexeme text t)) e) r x)
+      (ap (transition (have o.level q.part (keying v.entries v.tokens s)) (lexeme text t)) e) r x)
 
   pub value_read : {a b c d f : Reader X I} {start : ℕ} {now : Entries} {o o' : Operand} {t : Token X}
       (v : EntriesSoFar text steps can left a b start now) (s : Stack) → IsAhead (kind.Operator sign.LeftBrace) a.ahead
       ≡ true → IsAhead (kind.Operator sign.RightBrace) b.ahead ≡ false
-      → (q : Gives text steps can left (λ s. rank s ≡ 0) 0 b c o) → Takes text steps can left c d t
-      → t.kind ≡ kind.Operator sign.Colon → (w : Gives text steps can left (λ s. rank s ≡ 0) 0 d f o')
+      → (q : GivesOperand text steps can left (λ s. needed_level s ≡ 0) 0 b c o) → Takes text steps can left c d t
+      → t.kind ≡ kind.Operator sign.Colon → (w : GivesOperand text steps can left (λ s. needed_level s ≡ 0) 0 d f o')
       → Onward text steps a f (at (operand s))
       (at (have o'.level w.part (valuing v.entries q.part.tree (v.tokens ++ (q.part.tokens ++ (lexeme text t ∷ [])))
       s)))
@@ -61,8 +61,8 @@ module _ {X I : Type 0} (text : X → List ℕ) (steps : I → Option (Result (T
   -- an entry and a comma after it
   pub entry_more : {a b c d f g : Reader X I} {start : ℕ} {now now' : Entries} {o o' : Operand} {t u : Token X}
       (v : EntriesSoFar text steps can left a b start now) → IsAhead (kind.Operator sign.RightBrace) b.ahead ≡ false
-      → (q : Gives text steps can left (λ s. rank s ≡ 0) 0 b c o) → Takes text steps can left c d t
-      → t.kind ≡ kind.Operator sign.Colon → (w : Gives text steps can left (λ s. rank s ≡ 0) 0 d f o')
+      → (q : GivesOperand text steps can left (λ s. needed_level s ≡ 0) 0 b c o) → Takes text steps can left c d t
+      → t.kind ≡ kind.Operator sign.Colon → (w : GivesOperand text steps can left (λ s. needed_level s ≡ 0) 0 d f o')
       → ((es : EntryTrees) (x y : Part) → KeepsEntries now es → KeepsPart o x → KeepsPart o' y
       → KeepsEntries now' (add_entry es x.tree y.tree)) → Takes text steps can left f g u
       → u.kind ≡ kind.Operator sign.Comma
@@ -80,23 +80,23 @@ module _ {X I : Type 0} (text : X → List ℕ) (steps : I → Option (Result (T
         (key_due (add_entry v.entries q.part.tree w.part.tree) ((v.tokens ++ (q.part.tokens ++ (lexeme text t ∷ [])))
         ++ (w.part.tokens ++ (lexeme text u ∷ []))) s) h
         (ap
-        (turn (have o'.level w.part (valuing v.entries q.part.tree
+        (transition (have o'.level w.part (valuing v.entries q.part.tree
         (v.tokens ++ (q.part.tokens ++ (lexeme text t ∷ []))) s)) (lexeme text u)) i) r x);
   }
 
   -- the last entry and the closing brace
   pub entry_last : {a b c d f g : Reader X I} {start : ℕ} {now now' : Entries} {o o' made : Operand} {t u : Token X}
       (v : EntriesSoFar text steps can left a b start now) → IsAhead (kind.Operator sign.RightBrace) b.ahead ≡ false
-      → (q : Gives text steps can left (λ s. rank s ≡ 0) 0 b c o) → Takes text steps can left c d t
-      → t.kind ≡ kind.Operator sign.Colon → (w : Gives text steps can left (λ s. rank s ≡ 0) 0 d f o')
+      → (q : GivesOperand text steps can left (λ s. needed_level s ≡ 0) 0 b c o) → Takes text steps can left c d t
+      → t.kind ≡ kind.Operator sign.Colon → (w : GivesOperand text steps can left (λ s. needed_level s ≡ 0) 0 d f o')
       → ((es : EntryTrees) (x y : Part) → KeepsEntries now es → KeepsPart o x → KeepsPart o' y
       → KeepsEntries now' (add_entry es x.tree y.tree)) → (h : Takes text steps can left f g u)
       → u.kind ≡ kind.Operator sign.RightBrace
       → made.level ≡ 7 → ((es : EntryTrees) → KeepsEntries now' es → Builds made (λ z. dict z es) start u.place.end)
-      → left_in left b < left_in left a → Gives text steps can left
+      → left_in left b < left_in left a → GivesOperand text steps can left
       (λ s. IsAhead (kind.Operator sign.LeftBrace) a.ahead ≡ true) 7 a g made
   entry_last {g = g} {o' = o'} {t = t} {u = u} v n q k e w p h i l m y = record {
-    part = part (λ z. dict z (add_entry v.entries q.part.tree w.part.tree))
+    bare_part = bare_part (λ z. dict z (add_entry v.entries q.part.tree w.part.tree))
         ((v.tokens ++ (q.part.tokens ++ (lexeme text t ∷ []))) ++ (w.part.tokens ++ (lexeme text u ∷ [])));
     keeps = m (add_entry v.entries q.part.tree w.part.tree) (p v.entries q.part w.part v.keeps q.keeps w.keeps) _
         (starts_more _ (starts_more _ v.starts)) (ends_more (v.tokens ++ (q.part.tokens ++ (lexeme text t ∷ [])))
@@ -109,14 +109,14 @@ module _ {X I : Type 0} (text : X → List ℕ) (steps : I → Option (Result (T
     leads = λ s z r x. value_read v s z n q k e w r
         (step_to (have o'.level w.part (valuing v.entries q.part.tree
         (v.tokens ++ (q.part.tokens ++ (lexeme text t ∷ []))) s))
-        (have 7 (part (λ z. dict z (add_entry v.entries q.part.tree w.part.tree))
+        (have 7 (bare_part (λ z. dict z (add_entry v.entries q.part.tree w.part.tree))
         ((v.tokens ++ (q.part.tokens ++ (lexeme text t ∷ []))) ++ (w.part.tokens ++ (lexeme text u ∷ [])))) s) h
         (ap
-        (turn (have o'.level w.part (valuing v.entries q.part.tree
+        (transition (have o'.level w.part (valuing v.entries q.part.tree
         (v.tokens ++ (q.part.tokens ++ (lexeme text t ∷ []))) s)) (lexeme text u)) i) r
         (subst
         (λ y. Came text steps g
-        (at (have y (part (λ z. dict z (add_entry v.entries q.part.tree w.part.tree))
+        (at (have y (bare_part (λ z. dict z (add_entry v.entries q.part.tree w.part.tree))
         ((v.tokens ++ (q.part.tokens ++ (lexeme text t ∷ []))) ++ (w.part.tokens ++ (lexeme text u ∷ [])))) s)) r) l
         x));
   }
@@ -126,20 +126,20 @@ module _ {X I : Type 0} (text : X → List ℕ) (steps : I → Option (Result (T
       (v : EntriesSoFar text steps can left a b start now) → (h : Takes text steps can left b c t)
       → t.kind ≡ kind.Operator sign.RightBrace
       → made.level ≡ 7 → ((es : EntryTrees) → KeepsEntries now es → Builds made (λ z. dict z es) start t.place.end)
-      → left_in left b < left_in left a → Gives text steps can left
+      → left_in left b < left_in left a → GivesOperand text steps can left
       (λ s. IsAhead (kind.Operator sign.LeftBrace) a.ahead ≡ true) 7 a c made
   entries_end {c = c} {t = t} v h i l m y = record {
-    part = part (λ z. dict z v.entries) (v.tokens ++ (lexeme text t ∷ []));
+    bare_part = bare_part (λ z. dict z v.entries) (v.tokens ++ (lexeme text t ∷ []));
     keeps = m v.entries v.keeps _ (starts_more _ v.starts) (ends_more v.tokens (ends_one (lexeme text t)));
     low = omega (arith, l);
     ready = h.ready;
     later = omega (arith, y, h.later);
     begins = λ z x. first_more _ v.starts ∙ v.begins z x;
     leads = λ s z r x. v.leads s z r (step_to (key_due v.entries v.tokens s)
-        (have 7 (part (λ z. dict z v.entries) (v.tokens ++ (lexeme text t ∷ []))) s) h
-        (ap (λ y. on y (have 7 (part (λ z. dict z v.entries) (v.tokens ++ (lexeme text t ∷ []))) s)
-        (operand_turn (keying v.entries v.tokens s) (lexeme text t) (start_of t.kind)))
+        (have 7 (bare_part (λ z. dict z v.entries) (v.tokens ++ (lexeme text t ∷ []))) s) h
+        (ap (λ y. on y (have 7 (bare_part (λ z. dict z v.entries) (v.tokens ++ (lexeme text t ∷ []))) s)
+        (operand_turn (keying v.entries v.tokens s) (lexeme text t) (operand_start t.kind)))
         (is_same t.kind (kind.Operator sign.RightBrace) i)) r
-        (subst (λ y. Came text steps c (at (have y (part (λ z. dict z v.entries) (v.tokens ++ (lexeme text t ∷ []))) s))
+        (subst (λ y. Came text steps c (at (have y (bare_part (λ z. dict z v.entries) (v.tokens ++ (lexeme text t ∷ []))) s))
         r) l x));
   }

@@ -10,16 +10,16 @@ use Rattle.pc_token.specs.declared.token.Keyword.TheVariants as word
 use Rattle.pc_token.specs.declared.token.Operator.TheVariants as sign
 use Rattle.pc_token.specs.Lexeme.{Lexeme}
 use Rattle.pc_tree.specs.Tree.{no_exprs, index}
-use Rattle.pc_grammar.specs.Machine.{at, turn}
+use Rattle.pc_grammar.specs.Machine.{at, transition}
 use Rattle.pc_grammar.specs.Machine.States.{Part, minus, in_call, Stack, applying, indexing, State, operand, have}
 use Rattle.pc_grammar.specs.Machine.States.{dotted}
 use Rattle.pc_grammar.specs.Machine.States.{item_due, go}
-use Rattle.pc_grammar.specs.Machine.Expressions.{rank, part}
+use Rattle.pc_grammar.specs.Machine.Expressions.{needed_level, bare_part}
 use Rattle.pc_reader.specs.declared.reader.Reader.{Reader}
 use Rattle.pc_reader.specs.declared.operand.Operand.{Operand}
 use Rattle.pc_reader.specs.Internal.Operands.{KeepsPart, Builds, signs_on, starts_of}
 use Rattle.pc_reader.specs.Reading.{lexeme, IsAhead, Came, Takes}
-use Rattle.pc_reader.specs.Internal.Expressions.{Gives, GivesOn, NextIs, Undotted, IsPrimary, ReadsOperand}
+use Rattle.pc_reader.specs.Internal.Expressions.{GivesOperand, GivesOn, NextIs, Undotted, IsPrimary, ReadsOperand}
 use Rattle.pc_reader.specs.Internal.Expressions.{wrapped_level}
 use Rattle.pc_reader.proofs.Building.{first_more, starts_more, ends_more, ends_one}
 use Rattle.pc_reader.proofs.Frames.{tight}
@@ -31,7 +31,7 @@ use Rattle.pc_reader.proofs.Streams.{blame}
 -- after all minus signs no further one stands, and no `not` either
 pub behind_signs : {X I : Type 0} (a b : Reader X I) (starts : List ℕ) (ts : List Lexeme) (s : Stack) (level : ℕ)
     → starts_of ts ≡ starts → (starts ≡ [] → b.ahead ≡ a.ahead)
-    → IsAhead (kind.Operator sign.Minus) b.ahead ≡ false → rank s ≡ level → (2 < level)
+    → IsAhead (kind.Operator sign.Minus) b.ahead ≡ false → needed_level s ≡ level → (2 < level)
     ⊎ (IsAhead (kind.Keyword word.Not) a.ahead ≡ false) → IsPrimary b (signs_on minus ts s)
 behind_signs a b starts [] s level e h n r (inl d) = record { plain = n; undenied = inl (omega (arith, d, r)) }
 behind_signs a b starts [] s level e h n r (inr d) = record {
@@ -52,30 +52,30 @@ minus_undotted a [] own u = u
 minus_undotted a (t ∷ ts) own u = low_undotted a 6 (omega arith)
 
 pub dot_turn : (level : ℕ) (p : Part) (s : Stack) (t : Lexeme) (k : TokenKind) → 7 ≤ level → k ≡ kind.Operator sign.Dot
-    → turn (have level p s) t k ≡ go (dotted p (t ∷ []) s)
-dot_turn level p s t k h e = ap (turn (have level p s) t) e ∙ tight 7 level (go (dotted p (t ∷ []) s)) h
+    → transition (have level p s) t k ≡ go (dotted p (t ∷ []) s)
+dot_turn level p s t k h e = ap (transition (have level p s) t) e ∙ tight 7 level (go (dotted p (t ∷ []) s)) h
 
 pub call_turn : (level : ℕ) (p : Part) (s : Stack) (t : Lexeme) (k : TokenKind) → 7 ≤ level
     → k ≡ kind.Operator sign.LeftParenthesis
-    → turn (have level p s) t k ≡ go (item_due (in_call p.tree) no_exprs (p.tokens ++ (t ∷ [])) s)
-call_turn level p s t k h e = ap (turn (have level p s) t) e ∙ tight 7 level
+    → transition (have level p s) t k ≡ go (item_due (in_call p.tree) no_exprs (p.tokens ++ (t ∷ [])) s)
+call_turn level p s t k h e = ap (transition (have level p s) t) e ∙ tight 7 level
     (go (item_due (in_call p.tree) no_exprs (p.tokens ++ (t ∷ [])) s)) h
 
 pub index_turn : (level : ℕ) (p : Part) (s : Stack) (t : Lexeme) (k : TokenKind) → 7 ≤ level
     → k ≡ kind.Operator sign.LeftBracket
-    → turn (have level p s) t k ≡ go (operand (indexing p.tree (p.tokens ++ (t ∷ [])) s))
-index_turn level p s t k h e = ap (turn (have level p s) t) e
+    → transition (have level p s) t k ≡ go (operand (indexing p.tree (p.tokens ++ (t ∷ [])) s))
+index_turn level p s t k h e = ap (transition (have level p s) t) e
     ∙ tight 7 level (go (operand (indexing p.tree (p.tokens ++ (t ∷ [])) s))) h
 
 module _ {X I : Type 0} (text : X → List ℕ) (steps : I → Option (Result (Token X) Fault) → I → Type 0)
     (can : I → Type 0) (left : I → Count) where
   -- an operand, a token that goes on with it, and what stands after that
   pub goes_on : {K : Type 0} (st : K → Part → Stack → State) (k : K) {fits : Stack → Type 0} {a b c d : Reader X I}
-      {o o' : Operand} {t : Token X} (v : Gives text steps can left fits 7 a b o) → Takes text steps can left b c t
-      → ((s : Stack) → turn (have o.level v.part s) (lexeme text t) t.kind ≡ go (st k v.part s))
-      → GivesOn text steps can left st 7 c d o o' → Gives text steps can left fits 7 a d o'
+      {o o' : Operand} {t : Token X} (v : GivesOperand text steps can left fits 7 a b o) → Takes text steps can left b c t
+      → ((s : Stack) → transition (have o.level v.part s) (lexeme text t) t.kind ≡ go (st k v.part s))
+      → GivesOn text steps can left st 7 c d o o' → GivesOperand text steps can left fits 7 a d o'
   goes_on st k {d = d} {o = o} {o' = o'} v h f n = let j = n.goes k v.part v.keeps in record {
-    part = j.part;
+    bare_part = j.part;
     keeps = j.keeps;
     low = omega (arith, n.level_is);
     ready = n.ready;
@@ -87,14 +87,14 @@ module _ {X I : Type 0} (text : X → List ℕ) (steps : I → Option (Result (T
 
   -- an operand, and what stands in brackets after it
   pub index_on : {fits : Stack → Type 0} {a b c d f : Reader X I} {o inner made : Operand} {t u : Token X}
-      (v : Gives text steps can left fits 7 a b o) → Takes text steps can left b c t
+      (v : GivesOperand text steps can left fits 7 a b o) → Takes text steps can left b c t
       → t.kind ≡ kind.Operator sign.LeftBracket
-      → (q : Gives text steps can left (λ s. rank s ≡ 0) 0 c d inner) → Takes text steps can left d f u
+      → (q : GivesOperand text steps can left (λ s. needed_level s ≡ 0) 0 c d inner) → Takes text steps can left d f u
       → u.kind ≡ kind.Operator sign.RightBracket
       → made.level ≡ 7 → ((p k : Part) → KeepsPart o p → KeepsPart inner k → Builds made (λ z. index z p.tree k.tree)
-      o.start u.place.end) → Gives text steps can left fits 7 a f made
+      o.start u.place.end) → GivesOperand text steps can left fits 7 a f made
   index_on {f = f} {o = o} {inner = inner} {t = t} {u = u} v h i q k j lv m = record {
-    part = part (λ z. index z v.part.tree q.part.tree) ((v.part.tokens ++ (lexeme text t ∷ []))
+    bare_part = bare_part (λ z. index z v.part.tree q.part.tree) ((v.part.tokens ++ (lexeme text t ∷ []))
         ++ (q.part.tokens ++ (lexeme text u ∷ [])));
     keeps = m v.part q.part v.keeps q.keeps _ (starts_more _ (starts_more _ v.keeps.starts))
         (ends_more (v.part.tokens ++ (lexeme text t ∷ [])) (ends_more q.part.tokens (ends_one (lexeme text u))));
@@ -108,23 +108,23 @@ module _ {X I : Type 0} (text : X → List ℕ) (steps : I → Option (Result (T
         (index_turn o.level v.part s (lexeme text t) t.kind v.low i) x
         (q.leads (indexing v.part.tree (v.part.tokens ++ (lexeme text t ∷ [])) s) refl x
         (step_to (have inner.level q.part (indexing v.part.tree (v.part.tokens ++ (lexeme text t ∷ [])) s))
-        (have 7 (part (λ z. index z v.part.tree q.part.tree) ((v.part.tokens ++ (lexeme text t ∷ []))
+        (have 7 (bare_part (λ z. index z v.part.tree q.part.tree) ((v.part.tokens ++ (lexeme text t ∷ []))
         ++ (q.part.tokens ++ (lexeme text u ∷ [])))) s) k
-        (ap (turn (have inner.level q.part (indexing v.part.tree (v.part.tokens ++ (lexeme text t ∷ [])) s))
+        (ap (transition (have inner.level q.part (indexing v.part.tree (v.part.tokens ++ (lexeme text t ∷ [])) s))
         (lexeme text u)) j) x
         (subst
         (λ z. Came text steps f
-        (at (have z (part (λ z. index z v.part.tree q.part.tree)
+        (at (have z (bare_part (λ z. index z v.part.tree q.part.tree)
         ((v.part.tokens ++ (lexeme text t ∷ [])) ++ (q.part.tokens ++ (lexeme text u ∷ [])))) s)) x) lv y))));
   }
 
   -- an operand without a sign is one that binds as tightly as is due
   pub unsigned_reads : (a b : Reader X I) (r : Result Operand Fault) (level : ℕ) → level ≤ 6
-      → ((s : Stack) → rank s ≡ level → IsPrimary a s)
+      → ((s : Stack) → needed_level s ≡ level → IsPrimary a s)
       → ReadsOperand text steps can left (λ s. IsPrimary a s) 7 a b r
-      → ReadsOperand text steps can left (λ s. rank s ≡ level) level a b r
+      → ReadsOperand text steps can left (λ s. needed_level s ≡ level) level a b r
   unsigned_reads a b (Ok o) level l f h = record {
-    part = h.part;
+    bare_part = h.part;
     keeps = h.keeps;
     low = omega (arith, l, h.low);
     ready = h.ready;

@@ -25,7 +25,7 @@ use Rattle.pc_reader.specs.declared.items.Items.{Items}
 use Rattle.pc_reader.specs.declared.items.Entries.{Entries as RustEntries}
 use Rattle.pc_reader.specs.declared.items.Keywords.{Keywords as RustKeywords}
 use Rattle.pc_reader.specs.declared.operand.Operand.{Operand}
-use Rattle.pc_reader.specs.Internal.Operands.{KeepsPart, Builds, node_of, form_of}
+use Rattle.pc_reader.specs.Internal.Operands.{KeepsPart, Builds, node_of, form_of_expr}
 use Rattle.pc_reader.specs.Internal.Brackets.{KeepsItems, KeepsEntries, KeepsKeywords}
 use Rattle.pc_reader.proofs.Building.{built}
 
@@ -122,7 +122,7 @@ pub listed : (v : Vec RustExpr Global) (i : Items) (a b : ℕ) (es : Exprs) → 
     (λ q. list q es) a b
 listed v i a b es k f = built _ 7 i.depth (depth_over es) a b (λ q. list q es) (λ q. refl) (λ q. refl) k.depth
     (λ h. in_list _ v ∙ ap (λ z. list (record { start = a; end = b }) z) (ap exprs_of_list (f h) ∙ k.kept h))
-    (λ q. ap form_of (in_list (record { start = a; end = b }) v))
+    (λ q. ap form_of_expr (in_list (record { start = a; end = b }) v))
 
 pub tupled : (v : Vec RustExpr Global) (i : Items) (a b : ℕ) (es : Exprs) → KeepsItems i es
     → (i.depth ≤ 64 → v.items ≡ i.exprs.items)
@@ -130,7 +130,7 @@ pub tupled : (v : Vec RustExpr Global) (i : Items) (a b : ℕ) (es : Exprs) → 
     (λ q. tuple q es) a b
 tupled v i a b es k f = built _ 7 i.depth (depth_over es) a b (λ q. tuple q es) (λ q. refl) (λ q. refl) k.depth
     (λ h. in_tuple _ v ∙ ap (λ z. tuple (record { start = a; end = b }) z) (ap exprs_of_list (f h) ∙ k.kept h))
-    (λ q. ap form_of (in_tuple (record { start = a; end = b }) v))
+    (λ q. ap form_of_expr (in_tuple (record { start = a; end = b }) v))
 
 pub dicted : (v : Vec Entry Global) (i : RustEntries) (a b : ℕ) (es : Entries) → KeepsEntries i es
     → (i.depth ≤ 64 → v.items ≡ i.entries.items)
@@ -138,7 +138,7 @@ pub dicted : (v : Vec Entry Global) (i : RustEntries) (a b : ℕ) (es : Entries)
     (λ q. dict q es) a b
 dicted v i a b es k f = built _ 7 i.depth (depth_over_entries es) a b (λ q. dict q es) (λ q. refl) (λ q. refl) k.depth
     (λ h. in_dict _ v ∙ ap (λ z. dict (record { start = a; end = b }) z) (ap entries_of_list (f h) ∙ k.kept h))
-    (λ q. ap form_of (in_dict (record { start = a; end = b }) v))
+    (λ q. ap form_of_expr (in_dict (record { start = a; end = b }) v))
 
 in_call : (p : Place) (e : Box RustExpr Global) (v : Vec RustExpr Global) (w : Vec KeywordArgument Global)
     → expr_of (rust.Call p e v w) ≡ call p (expr_of e.value) (exprs_of_list v.items) (keywords_of_list w.items)
@@ -163,4 +163,4 @@ called o e v w i j depth a b p es ks ko ki kj d f g h = let od = ko.depth in let
     ∙ ap (λ z. call (record { start = a; end = b }) p.tree z (keywords_of_list w.items)) (ap exprs_of_list (g l)
     ∙ ki.kept (omega arith))
     ∙ ap (λ z. call (record { start = a; end = b }) p.tree es z) (ap keywords_of_list (h l) ∙ kj.kept (omega arith)))
-    (λ q. ap form_of (in_call (record { start = a; end = b }) e v w))
+    (λ q. ap form_of_expr (in_call (record { start = a; end = b }) e v w))

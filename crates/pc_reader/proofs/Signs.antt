@@ -2,10 +2,10 @@
 use Rattle.std.proofs.Common.{◌≡◌, ℕ, ◌≤◌, ◌<◌, List, [], ◌∷◌, ◌++◌, refl, arith, ap, ◌∙◌}
 use Rattle.pc_token.specs.declared.token.TokenKind.{TokenKind}
 use Rattle.pc_token.specs.Lexeme.{Lexeme}
-use Rattle.pc_grammar.specs.Machine.{turn}
+use Rattle.pc_grammar.specs.Machine.{transition}
 use Rattle.pc_grammar.specs.Machine.Kinds.{Link, Follow, link}
 use Rattle.pc_grammar.specs.Machine.States.{Part, Prefix, minus, denial, Stack, applying, operand, go, on, stuck}
-use Rattle.pc_grammar.specs.Machine.Expressions.{prefix_level, rank, applied, have_turn, left_of_link, own_of_link}
+use Rattle.pc_grammar.specs.Machine.Expressions.{prefix_level, needed_level, applied, have_turn, left_of_link, own_of_link}
 use Rattle.pc_grammar.specs.Fronts.Expressions.{prefix_kind}
 use Rattle.pc_reader.specs.Internal.Operands.{signs_on, applied_all, starts_of}
 use Rattle.pc_reader.specs.Internal.Expressions.{TakesSign, Undotted, wrapped_level}
@@ -29,16 +29,16 @@ takes_signs x [] s h = h
 takes_signs x (t ∷ ts) s h = takes_signs x ts (applying x (t ∷ []) s) (takes_more x t s)
 
 -- the level that the operand after signs must have
-pub signs_rank : (x : Prefix) (ts : List Lexeme) (s : Stack) (n : ℕ) → rank s ≤ n → prefix_level x ≤ n
-    → rank (signs_on x ts s) ≤ n
+pub signs_rank : (x : Prefix) (ts : List Lexeme) (s : Stack) (n : ℕ) → needed_level s ≤ n → prefix_level x ≤ n
+    → needed_level (signs_on x ts s) ≤ n
 signs_rank x [] s n h g = h
 signs_rank x (t ∷ ts) s n h g = signs_rank x ts (applying x (t ∷ []) s) n g g
 
 pub sign_turn : (x : Prefix) (s : Stack) (t : Lexeme) (k : TokenKind) → k ≡ prefix_kind x → TakesSign x s
-    → turn (operand s) t k ≡ go (operand (applying x (t ∷ []) s))
-sign_turn minus s t k e h = ap (turn (operand s) t) e
-sign_turn denial s t k e h = ap (turn (operand s) t) e ∙ ap (λ z. on z (operand (applying denial (t ∷ []) s)) stuck)
-    (is_le (rank s) 2 h)
+    → transition (operand s) t k ≡ go (operand (applying x (t ∷ []) s))
+sign_turn minus s t k e h = ap (transition (operand s) t) e
+sign_turn denial s t k e h = ap (transition (operand s) t) e ∙ ap (λ z. on z (operand (applying denial (t ∷ []) s)) stuck)
+    (is_le (needed_level s) 2 h)
 
 -- before a token that does not go on with the operand, signs are as good as applied
 pub signs_turn : (x : Prefix) (ts : List Lexeme) (p : Part) (s : Stack) (level : ℕ) (t : Lexeme) (f : Follow)
@@ -103,7 +103,7 @@ minus_high [] level own h g = omega (arith, h, g)
 minus_high (t ∷ ts) level own h g = h
 
 -- where some sign stands, the last one says how tightly its operand must bind
-pub signs_rank_is : (x : Prefix) (ts : List Lexeme) (s : Stack) → rank s ≡ prefix_level x
-    → rank (signs_on x ts s) ≡ prefix_level x
+pub signs_rank_is : (x : Prefix) (ts : List Lexeme) (s : Stack) → needed_level s ≡ prefix_level x
+    → needed_level (signs_on x ts s) ≡ prefix_level x
 signs_rank_is x [] s h = h
 signs_rank_is x (t ∷ ts) s h = signs_rank_is x ts (applying x (t ∷ []) s) refl

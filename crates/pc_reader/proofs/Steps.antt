@@ -9,12 +9,12 @@ use Rattle.pc_token.specs.declared.token.TokenKind.{TokenKind}
 use Rattle.pc_token.specs.Lexeme.{Lexeme}
 use Rattle.pc_tree.specs.declared.tree.BinaryOperator.TheVariants.{Add, Sub, Mul, FloorDiv, Mod}
 use Rattle.pc_tree.specs.Tree.{Module}
-use Rattle.pc_grammar.specs.Machine.{Reading, at, lost, short, stop_at, turn, arrive}
+use Rattle.pc_grammar.specs.Machine.{Reading, at, lost, short, stop_at, transition, arrive}
 use Rattle.pc_grammar.specs.Machine.Kinds.{same_kind, arithmetic, comparison, both, either, Link, linking, denying}
 use Rattle.pc_grammar.specs.Machine.Kinds.{identifying, Follow, link, follow_of}
 use Rattle.pc_grammar.specs.Machine.States.{Part, minus, denial, Stack, whole, joining, applying, grouping, listing}
 use Rattle.pc_grammar.specs.Machine.States.{indexing, naming, keying, valuing, State, stuck, go, on}
-use Rattle.pc_grammar.specs.Machine.Expressions.{own_of, right_of, own_of_link, left_of_link, prefix_level, rank}
+use Rattle.pc_grammar.specs.Machine.Expressions.{own_of, right_of, own_of_link, left_of_link, prefix_level, needed_level}
 use Rattle.pc_grammar.specs.Machine.Expressions.{reduce}
 use Rattle.pc_grammar.specs.Machine.Expressions.{linked, have_turn}
 use Rattle.pc_reader.specs.declared.reader.Reader.{Reader}
@@ -28,7 +28,7 @@ use Rattle.pc_reader.proofs.Streams.{blame_memory, run_end, same_step, at_end}
 -- the token that was taken leads from one state to another
 pub step_to : {X I : Type 0} {text : X → List ℕ} {steps : I → Option (Result (Token X) Fault) → I → Type 0}
     {can : I → Type 0} {left : I → Count} {a b : Reader X I} {t : Token X}
-    → (st st' : State) → Takes text steps can left a b t → turn st (lexeme text t) t.kind ≡ go st'
+    → (st st' : State) → Takes text steps can left a b t → transition st (lexeme text t) t.kind ≡ go st'
     → Onward text steps a b (at st) (at st')
 step_to {text = text} {steps = steps} {a = a} {b = b} {t = t} st st' h e o x =
     h.leads (at st) o (subst (λ z. Came text steps b z o) (sym (ap (λ z. arrive z (lexeme text t)) e)) x)
@@ -46,7 +46,7 @@ skipped {X = X} {text = text} {steps = steps} {can = can} {left = left} {a = a} 
 -- two states that go the same way at the token ahead
 pub alike : {X I : Type 0} (text : X → List ℕ) (steps : I → Option (Result (Token X) Fault) → I → Type 0)
     (a : Reader X I) (st st' : State) → stop_at st ≡ short → stop_at st' ≡ short
-    → ((t : Token X) → a.ahead ≡ Some t → turn st (lexeme text t) t.kind ≡ turn st' (lexeme text t) t.kind)
+    → ((t : Token X) → a.ahead ≡ Some t → transition st (lexeme text t) t.kind ≡ transition st' (lexeme text t) t.kind)
     → Onward text steps a a (at st) (at st')
 alike {X = X} text steps a st st' u u' f o x = by_ahead a.ahead refl
   where
@@ -58,7 +58,7 @@ alike {X = X} text steps a st st' u u' f o x = by_ahead a.ahead refl
 -- where a state waits for one kind of token
 pub needs : {X I : Type 0} {text : X → List ℕ} {kind : TokenKind} {st : State} {a : Reader X I} (next : Lexeme → State)
     → stop_at st ≡ short
-    → ((t : Lexeme) (k : TokenKind) → turn st t k ≡ on (same_kind k kind) (next t) stuck) → NeedsKind text kind st a
+    → ((t : Lexeme) (k : TokenKind) → transition st t k ≡ on (same_kind k kind) (next t) stuck) → NeedsKind text kind st a
 needs {text = text} {kind = kind} next u f = record {
   unfinished = u;
   stuck_at = λ t h e. f (lexeme text t) t.kind
@@ -69,7 +69,7 @@ needs {text = text} {kind = kind} next u f = record {
 pub meets : (kind k : TokenKind) (next : State) → k ≡ kind → on (same_kind k kind) next stuck ≡ go next
 meets kind k next e = ap (λ z. on z next stuck) (Rattle.pc_reader.proofs.SameKind.is_same k kind e)
 
-reduce_none : (l : Link) (p : Part) (s : Stack) → rank s ≤ own_of_link l → reduce (left_of_link l) p s ≡ (p, s)
+reduce_none : (l : Link) (p : Part) (s : Stack) → needed_level s ≤ own_of_link l → reduce (left_of_link l) p s ≡ (p, s)
 reduce_none l p (joining op x o s) h = ap (λ z. if z then reduce (left_of_link l)
     (Rattle.pc_grammar.specs.Machine.Expressions.joined op x o p) s else (p, joining op x o s))
     (not_le (left_of_link l) (own_of op) (let q = right_is op in let w = own_left l in omega arith))
@@ -99,10 +99,10 @@ reduce_none l p (valuing es k ts s) h = refl
 
 -- an operator that goes on with the operand
 pub link_turn : (l : Link) (level : ℕ) (p : Part) (s : Stack) (t : Lexeme) (f : Follow) → f ≡ link l
-    → left_of_link l ≤ level → rank s ≤ own_of_link l → have_turn level p s t f ≡ go (linked l t p s)
+    → left_of_link l ≤ level → needed_level s ≤ own_of_link l → have_turn level p s t f ≡ go (linked l t p s)
 link_turn l level p s t f e h r = ap (λ z. have_turn level p s t z) e ∙ tight (left_of_link l) level _ h
     ∙ ap (λ z. Rattle.pc_grammar.specs.Machine.Expressions.after_link l t z) (reduce_none l p s r)
-    ∙ ap (λ z. on z (linked l t p s) stuck) (is_le (rank s) (own_of_link l) r)
+    ∙ ap (λ z. on z (linked l t p s) stuck) (is_le (needed_level s) (own_of_link l) r)
 
 -- one token is ahead
 pub same_place : {X : Type 0} {a : Option (Token X)} {t u : Token X} → a ≡ Some t → a ≡ Some u → t.place ≡ u.place

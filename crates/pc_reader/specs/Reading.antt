@@ -11,7 +11,7 @@ use Rattle.pc_token.specs.declared.token.Token.{Token}
 use Rattle.pc_token.specs.declared.token.TokenKind.{TokenKind}
 use Rattle.pc_token.specs.Lexeme.{Lexeme, form_of}
 use Rattle.pc_tree.specs.Tree.{Module}
-use Rattle.pc_grammar.specs.Machine.{Reading, Outcome, reads, refuses, short, step, stop, stop_at, turn}
+use Rattle.pc_grammar.specs.Machine.{Reading, Outcome, reads, refuses, short, step, stop, stop_at, transition}
 use Rattle.pc_grammar.specs.Machine.Kinds.{same_kind}
 use Rattle.pc_grammar.specs.Machine.States.{State, stuck}
 use Rattle.pc_reader.specs.declared.reader.Reader.{Reader}
@@ -100,13 +100,13 @@ module _ {X I : Type 0} (left : I → Count) where
 -- the token ahead, if any, does not fit the state
 pub record Rejects {X I : Type 0} (text : X → List ℕ) (st : State) (a : Reader X I) : Type 0 where
   pub unfinished : stop_at st ≡ short
-  pub stuck_at : (t : Token X) → a.ahead ≡ Some t → turn st (lexeme text t) t.kind ≡ stuck
+  pub stuck_at : (t : Token X) → a.ahead ≡ Some t → transition st (lexeme text t) t.kind ≡ stuck
 
 -- only a token of this kind fits the state
 pub record NeedsKind {X I : Type 0} (text : X → List ℕ) (kind : TokenKind) (st : State) (a : Reader X I) : Type 0 where
   pub unfinished : stop_at st ≡ short
   pub stuck_at : (t : Token X) → a.ahead ≡ Some t → same_kind t.kind kind ≡ false
-      → turn st (lexeme text t) t.kind ≡ stuck
+      → transition st (lexeme text t) t.kind ≡ stuck
 
 module _ {X I : Type 0} (text : X → List ℕ) (steps : I → Option (Result (Token X) Fault) → I → Type 0)
     (can : I → Type 0) (left : I → Count) where

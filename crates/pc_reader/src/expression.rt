@@ -6,8 +6,8 @@ ghost use Rattle.pc_source.specs.declared.fault.Fault.TheVariants as fault;
 ghost use Rattle.pc_token.specs.declared.token.TokenKind.TheVariants as kind;
 ghost use Rattle.pc_token.specs.declared.token.Operator.TheVariants as sign;
 ghost use Rattle.pc_tree.specs.Tree.{no_exprs};
-ghost use Rattle.pc_grammar.specs.Machine.Kinds.{start_of};
-ghost use Rattle.pc_grammar.specs.Machine.Expressions.{rank};
+ghost use Rattle.pc_grammar.specs.Machine.Kinds.{operand_start};
+ghost use Rattle.pc_grammar.specs.Machine.Expressions.{needed_level};
 ghost use Rattle.pc_grammar.specs.Machine.States.{item_due, in_call};
 ghost use Rattle.pc_reader.specs.Reading.{IsReady, IsAhead, lexeme};
 ghost use Rattle.pc_reader.specs.Internal.Expressions.{NextIs, Over, Undotted, IsPrimary, IsSingle, IsValue};
@@ -47,7 +47,7 @@ impl<X: AsStr + Drop, I: Iterator<Item = Result<Token<X>, Fault>> + Drop> Reader
 
 /// Whether a token of this kind is a value by itself.
 fn is_value(kind: TokenKind) -> bool
-    ensures { result ≡ is_value_start (start_of kind) }
+    ensures { result ≡ is_value_start (operand_start kind) }
 {
     match kind {
         TokenKind::Name | TokenKind::Int | TokenKind::Str => true,
@@ -59,7 +59,7 @@ fn is_value(kind: TokenKind) -> bool
 /// Returns the value that a token is.
 fn value<X: AsStr + Drop>(alloc: Global, token: &Token<X>) -> Result<Operand, Fault>
     ensures { MatchResult result
-        (λ o. (o.level ≡ 7) × (is_value_start (start_of token.now.kind) ≡ true → IsValue (lexeme X.text token.now) o))
+        (λ o. (o.level ≡ 7) × (is_value_start (operand_start token.now.kind) ≡ true → IsValue (lexeme X.text token.now) o))
         (λ e. e ≡ fault.OutOfMemory) }
 {
     let place = token.place;
@@ -90,7 +90,7 @@ impl<X: AsStr + Drop, I: Iterator<Item = Result<Token<X>, Fault>> + Drop> Reader
         requires ready { IsReady I.can_next I.remaining self.old }
         requires level { level ≤ 6 }
         ensures reads { ReadsOperand X.text I.next_gives I.can_next I.remaining
-            (λ s. rank s ≡ level) level self.old self.new result }
+            (λ s. needed_level s ≡ level) level self.old self.new result }
         ensures over { IfOk result (λ o. NextIs (Over level o.level) self.new.ahead) }
         ensures undotted { IfOk result (λ o. NextIs (Undotted o.level) self.new.ahead) }
     {
@@ -112,7 +112,7 @@ impl<X: AsStr + Drop, I: Iterator<Item = Result<Token<X>, Fault>> + Drop> Reader
         requires ready { IsReady I.can_next I.remaining self.old }
         requires level { level ≤ 6 }
         ensures reads { ReadsOperand X.text I.next_gives I.can_next I.remaining
-            (λ s. rank s ≡ level) level self.old self.new result }
+            (λ s. needed_level s ≡ level) level self.old self.new result }
         ensures undotted { IfOk result (λ o. NextIs (Undotted o.level) self.new.ahead) }
     {
         if self.sees(TokenKind::Operator(Operator::Minus)) {
@@ -131,7 +131,7 @@ impl<X: AsStr + Drop, I: Iterator<Item = Result<Token<X>, Fault>> + Drop> Reader
         requires ready { IsReady I.can_next I.remaining self.old }
         requires level { level ≤ 6 }
         ensures reads { ReadsOperand X.text I.next_gives I.can_next I.remaining
-            (λ s. rank s ≡ level) level self.old self.new result }
+            (λ s. needed_level s ≡ level) level self.old self.new result }
         ensures undotted { IfOk result (λ o. NextIs (Undotted o.level) self.new.ahead) }
     {
         if level <= 2 && self.sees(TokenKind::Keyword(Keyword::Not)) {

@@ -9,7 +9,7 @@ ghost use Rattle.pc_grammar.specs.Machine.States.{Part};
 ghost use Rattle.pc_reader.specs.Internal.Operands.{KeepsPart, Builds};
 ghost use Rattle.pc_reader.specs.Internal.Brackets.{KeepsItems, KeepsEntries, KeepsKeywords};
 
-use crate::operand::{Operand, above, deeper, kept, node};
+use crate::operand::{Operand, deeper, depth_above, kept, node};
 use pc_source::{Fault, Place};
 use pc_tree::{Entry, Expr, KeywordArgument, Name, put_last};
 use std::alloc::Global;
@@ -67,7 +67,7 @@ impl Items {
             (λ _. (es : Exprs) (p : Part) → KeepsItems self.old es → KeepsPart item p
             → KeepsItems self.new (add_expr es p.tree)) (λ e. e ≡ fault.OutOfMemory) }
     {
-        self.depth = deeper(self.depth, above(item.depth));
+        self.depth = deeper(self.depth, depth_above(item.depth));
         put_last(&mut self.exprs, item.expr)?;
         Ok(())
     }
@@ -92,7 +92,7 @@ impl Entries {
             (λ _. (es : EntryTrees) (k v : Part) → KeepsEntries self.old es → KeepsPart key k → KeepsPart value v
             → KeepsEntries self.new (add_entry es k.tree v.tree)) (λ e. e ≡ fault.OutOfMemory) }
     {
-        self.depth = deeper(self.depth, above(deeper(key.depth, value.depth)));
+        self.depth = deeper(self.depth, depth_above(deeper(key.depth, value.depth)));
         put_last(
             &mut self.entries,
             Entry {
@@ -122,7 +122,7 @@ impl Keywords {
             (λ _. (ks : KeywordTrees) (v : Part) → KeepsKeywords self.old ks → KeepsPart value v
             → KeepsKeywords self.new (add_keyword ks (name_of name) v.tree)) (λ e. e ≡ fault.OutOfMemory) }
     {
-        self.depth = deeper(self.depth, above(value.depth));
+        self.depth = deeper(self.depth, depth_above(value.depth));
         put_last(
             &mut self.arguments,
             KeywordArgument {
@@ -188,7 +188,10 @@ pub(crate) fn called(
         start: callee.start,
         end,
     };
-    let depth = deeper(above(callee.depth), deeper(items.depth, keywords.depth));
+    let depth = deeper(
+        depth_above(callee.depth),
+        deeper(items.depth, keywords.depth),
+    );
     let inner = Box::new(alloc, kept(depth, callee.expr, place))?;
     if depth > 64 {
         return Ok(node(

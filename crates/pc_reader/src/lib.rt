@@ -12,5 +12,5 @@ mod operand;
 mod operators;
 mod reader;
 
-pub use operand::{Operand, above, deeper, plain_name};
+pub use operand::{Operand, deeper, depth_above, plain_name};
 pub use reader::Reader;

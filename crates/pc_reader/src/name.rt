@@ -2,7 +2,7 @@
 ghost use Rattle.std.specs.Prelude.{◌≡◌, MatchResult, string_bytes};
 ghost use Rattle.pc_source.specs.declared.fault.Fault.TheVariants as fault;
 ghost use Rattle.pc_tree.specs.Tree.{name_of};
-ghost use Rattle.pc_grammar.specs.Grammar.{digits_of, characters_of, escaped, name_at, unclosed, unopened};
+ghost use Rattle.pc_grammar.specs.Grammar.{digits_of, characters_of, escaped, name_of_token, unclosed, unopened};
 ghost use Rattle.pc_reader.specs.Reading.{IsReady, lexeme};
 ghost use Rattle.pc_reader.specs.Internal.Expressions.{ReadsName};
 
@@ -16,7 +16,7 @@ use std::convert::AsStr;
 /// Returns the name that a token is.
 #[inline(always)]
 pub(crate) fn named<X: AsStr + Drop>(alloc: Global, token: &Token<X>) -> Result<Name, Fault>
-    ensures { MatchResult result (λ n. name_of n ≡ name_at (lexeme X.text token.now)) (λ e. e ≡ fault.OutOfMemory) }
+    ensures { MatchResult result (λ n. name_of n ≡ name_of_token (lexeme X.text token.now)) (λ e. e ≡ fault.OutOfMemory) }
 {
     Ok(Name {
         place: token.place,

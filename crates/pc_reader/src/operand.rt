@@ -85,7 +85,7 @@ pub fn deeper(depth: u8, other: u8) -> u8
 }
 
 /// Returns the depth of a node over a part of this depth, at most 65.
-pub fn above(depth: u8) -> u8
+pub fn depth_above(depth: u8) -> u8
     requires { depth ≤ 65 }
     ensures { result ≡ min 65 (depth + 1) }
 {
@@ -137,7 +137,7 @@ pub(crate) fn join(
         start: left.start,
         end: right.end,
     };
-    let depth = above(deeper(left.depth, right.depth));
+    let depth = depth_above(deeper(left.depth, right.depth));
     let first = Box::new(alloc, kept(depth, left.expr, place))?;
     let second = Box::new(alloc, kept(depth, right.expr, place))?;
     let expr = operator.node(place, first, second);
@@ -161,7 +161,7 @@ pub(crate) fn wrap(
         start,
         end: operand.end,
     };
-    let depth = above(operand.depth);
+    let depth = depth_above(operand.depth);
     let inner = Box::new(alloc, kept(depth, operand.expr, place))?;
     match prefix {
         Prefix::Minus => Ok(node(Expr::Negative(place, inner), place, 6, depth)),
@@ -185,7 +185,7 @@ pub(crate) fn none_test(
         start: operand.start,
         end,
     };
-    let depth = above(operand.depth);
+    let depth = depth_above(operand.depth);
     let inner = Box::new(alloc, kept(depth, operand.expr, place))?;
     if negated {
         return Ok(node(Expr::IsNotNone(place, inner), place, 3, depth));
@@ -209,7 +209,7 @@ pub(crate) fn member(
         start: operand.start,
         end,
     };
-    let depth = above(operand.depth);
+    let depth = depth_above(operand.depth);
     let inner = Box::new(alloc, kept(depth, operand.expr, place))?;
     Ok(node(Expr::Attribute(place, inner, name), place, 7, depth))
 }
@@ -231,7 +231,7 @@ pub(crate) fn indexed(
         start: operand.start,
         end,
     };
-    let depth = above(deeper(operand.depth, key.depth));
+    let depth = depth_above(deeper(operand.depth, key.depth));
     let object = Box::new(alloc, kept(depth, operand.expr, place))?;
     let inner = Box::new(alloc, kept(depth, key.expr, place))?;
     Ok(node(Expr::Index(place, object, inner), place, 7, depth))

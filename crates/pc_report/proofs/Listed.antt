@@ -9,7 +9,7 @@ use Rattle.std.specs.List.{AllByRecursion}
 use Rattle.std.proofs.lemmas.List.Elements.{Contains-push_cases, Contains-append_left, Contains-append_right}
 use Rattle.pc_source.specs.declared.place.Place.{Place}
 use Rattle.pc_report.specs.declared.report.Row.{Row}
-use Rattle.pc_report.specs.Flows.{FlowEntry, IsListed, HasFlows, place_cmp}
+use Rattle.pc_report.specs.Flows.{FlowEntry, HasFlowAt, HasFlows, place_cmp}
 use Rattle.pc_report.proofs.Order.{is_equal, then_equal, nat_equal, nat_self}
 
 apart : (x : Bool) → x ≡ true → x ≡ false → ⊥
@@ -25,7 +25,7 @@ place_same p q h =
 place_self : (p : Place) → is_eq (place_cmp p p) ≡ true
 place_self p = rw (nat_self p.start, nat_self p.end) refl
 
-listed_more : (xs : List FlowEntry) (f : FlowEntry) (p : Place) → IsListed (xs ++ f ∷ []) p → IsListed xs p ⊎ (f.0 ≡ p)
+listed_more : (xs : List FlowEntry) (f : FlowEntry) (p : Place) → HasFlowAt (xs ++ f ∷ []) p → HasFlowAt xs p ⊎ (f.0 ≡ p)
 listed_more xs f p (g, c, e) = elim (Contains-push_cases xs f g c) [
   | inl a ↦ inl (g, a, e)
   | inr b ↦ inr (ap (λ (x : FlowEntry). x.0) b ∙ e)
@@ -33,10 +33,10 @@ listed_more xs f p (g, c, e) = elim (Contains-push_cases xs f g c) [
 
 module _ (xs : List FlowEntry) (b : Bor FlowEntry) (p : Place) where
   Here : Option (Bor FlowEntry) → Type 0
-  Here o = MatchOption o (¬ (IsListed (xs ++ b.now ∷ []) p)) (λ f. Contains (xs ++ b.now ∷ []) f.now × (f.now.0 ≡ p))
+  Here o = MatchOption o (¬ (HasFlowAt (xs ++ b.now ∷ []) p)) (λ f. Contains (xs ++ b.now ∷ []) f.now × (f.now.0 ≡ p))
 
   kept : is_eq (place_cmp b.now.0 p) ≡ false → (o : Option (Bor FlowEntry))
-      → MatchOption o (¬ (IsListed xs p)) (λ f. Contains xs f.now × (f.now.0 ≡ p)) → Here o
+      → MatchOption o (¬ (HasFlowAt xs p)) (λ f. Contains xs f.now × (f.now.0 ≡ p)) → Here o
   unfolding Here
   kept h None n = λ l. elim (listed_more xs b.now p l) [
     | inl a ↦ n a
@@ -46,7 +46,7 @@ module _ (xs : List FlowEntry) (b : Bor FlowEntry) (p : Place) where
   kept h (Some f) (c, e) = (Contains-append_left xs (b.now ∷ []) f.now c, e)
 
   here : (t : Bool) → is_eq (place_cmp b.now.0 p) ≡ t → (o : Option (Bor FlowEntry))
-      → MatchOption o (¬ (IsListed xs p)) (λ f. Contains xs f.now × (f.now.0 ≡ p)) → Here (cond t (Some b) o)
+      → MatchOption o (¬ (HasFlowAt xs p)) (λ f. Contains xs f.now × (f.now.0 ≡ p)) → Here (cond t (Some b) o)
   unfolding Here
   here true h o old = (Contains-append_right xs (b.now ∷ []) b.now (0, omega arith, refl), place_same b.now.0 p h)
   here false h o old = kept h o old

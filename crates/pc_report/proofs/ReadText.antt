@@ -19,7 +19,7 @@ use Rattle.pc_report.specs.declared.format.Format.{Format}
 use Rattle.pc_report.specs.declared.report.Row.{Row}
 use Rattle.pc_report.specs.Json.{FitsWords}
 use Rattle.pc_report.specs.ReadWhole.{texts_of, row_of_text, parted_at}
-use Rattle.pc_report.specs.ReadWhole.{types_in, flow_after, row_in_line, counts_in_line, lines_in, report_in_lines}
+use Rattle.pc_report.specs.ReadWhole.{types_around_arrow, flow_after, row_in_line, counts_in_line, lines_in, report_in_lines}
 use Rattle.pc_report.specs.ReadWhole.{IsPlainText, HasPlainTypes, TextIsReadBack}
 use Rattle.pc_report.specs.Report.{shown_flow, flow_text, row_text, errors_of, dynamic_count}
 use Rattle.pc_report.proofs.CodeOrder.{code_again}
@@ -121,19 +121,19 @@ without_two xs =
     let n : length (xs ++ 32 ∷ 45 ∷ []) - 2 ≡ length xs = omega (arith, length-append xs (32 ∷ 45 ∷ [])) in
     ap (λ k. take k (xs ++ 32 ∷ 45 ∷ [])) n ∙ take-append_seam xs (32 ∷ 45 ∷ [])
 
-types_read : (from to : List ℕ) → Lacks 62 from → types_in (from ++ (codes " -> " ++ to)) ≡ Some (from, to)
+types_read : (from to : List ℕ) → Lacks 62 from → types_around_arrow (from ++ (codes " -> " ++ to)) ≡ Some (from, to)
 types_read from to h =
     let front : Lacks 62 (from ++ 32 ∷ 45 ∷ []) = lacks_both 62 from (32 ∷ 45 ∷ []) h (refl, (refl, tt)) in
-    ap types_in (sym (append_assoc from (32 ∷ 45 ∷ []) (62 ∷ 32 ∷ to)))
+    ap types_around_arrow (sym (append_assoc from (32 ∷ 45 ∷ []) (62 ∷ 32 ∷ to)))
     ∙ ap (option_map (λ (parts : List ℕ × List ℕ). (take (length parts.0 - 2) parts.0, drop 1 parts.1)))
     (parted 62 (from ++ 32 ∷ 45 ∷ []) (32 ∷ to) front)
     ∙ ap (λ x. Some (x, to)) (without_two from)
 
 flow_read : (label : List ℕ) (flow : Option FlowTexts) → Lacks 32 label → HasPlainTypes flow
     → flow_after (label ++ flow_text flow) ≡ option_map texts_of flow
-flow_read label None h k = ap (λ x. option_and_then (λ (parts : List ℕ × List ℕ). types_in parts.1) x)
+flow_read label None h k = ap (λ x. option_and_then (λ (parts : List ℕ × List ℕ). types_around_arrow parts.1) x)
     (ap (parted_at 32) (append-nil label) ∙ whole 32 label h)
-flow_read label (Some flow) h k = ap (λ x. option_and_then (λ (parts : List ℕ × List ℕ). types_in parts.1) x)
+flow_read label (Some flow) h k = ap (λ x. option_and_then (λ (parts : List ℕ × List ℕ). types_around_arrow parts.1) x)
     (parted 32 label (rc_str_bytes flow.from ++ (codes " -> " ++ rc_str_bytes flow.to)) h)
     ∙ types_read (rc_str_bytes flow.from) (rc_str_bytes flow.to) (lacks_arrow (rc_str_bytes flow.from) k.0)
 

@@ -17,8 +17,8 @@ abbrev pub FlowEntry : Type 0
 FlowEntry = Place × RcStr Global × RcStr Global
 
 -- a flow of the list is at the place
-abbrev pub IsListed : List FlowEntry → Place → Type 0
-IsListed flows place = (f : FlowEntry) × Contains flows f × (f.0 ≡ place)
+abbrev pub HasFlowAt : List FlowEntry → Place → Type 0
+HasFlowAt flows place = (f : FlowEntry) × Contains flows f × (f.0 ≡ place)
 
 -- a flow of the list is at the place, with these texts
 abbrev pub ListsAt : List FlowEntry → Place → FlowTexts → Type 0
@@ -29,7 +29,7 @@ ListsAt flows place texts = (f : FlowEntry) × Contains flows f × (f.0 ≡ plac
 -- none
 abbrev pub IsExplained : List FlowEntry → Finding → Option FlowTexts → Type 0
 IsExplained flows finding texts =
-    MatchOption texts (finding.code ≡ A1 → ¬ (IsListed flows finding.place))
+    MatchOption texts (finding.code ≡ A1 → ¬ (HasFlowAt flows finding.place))
     (λ t. (finding.code ≡ A1) × ListsAt flows finding.place t)
 
 -- the order of places
@@ -39,4 +39,4 @@ place_cmp p q = ordering_then (nat_cmp p.start q.start) (nat_cmp p.end q.end)
 -- a map has a flow of the list at each place of the list
 abbrev pub HasFlows : List FlowEntry → BTreeMap Place (Bor FlowEntry) → Type 0
 HasFlows flows m = (p : Place)
-    → MatchOption (get place_cmp m p) (¬ (IsListed flows p)) (λ f. Contains flows f.now × (f.now.0 ≡ p))
+    → MatchOption (get place_cmp m p) (¬ (HasFlowAt flows p)) (λ f. Contains flows f.now × (f.now.0 ≡ p))

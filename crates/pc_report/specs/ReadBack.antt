@@ -56,8 +56,8 @@ code_of text =
     None)))))))))))))))))))))))))))))))))))))))
 
 -- the number in the member of this name
-abbrev pub number_at : List ℕ → Data → Option ℕ
-number_at name d = option_and_then as_u64 (option_and_then as_number (get name d))
+abbrev pub member_number : List ℕ → Data → Option ℕ
+member_number name d = option_and_then as_u64 (option_and_then as_number (get name d))
 
 -- the finding read from an object, by its start, its end and its code
 abbrev pub finding_in : Data → Option Finding
@@ -65,7 +65,7 @@ finding_in d = option_and_then
     (λ start. option_and_then
     (λ end. option_map (λ code. finding (record { start = start; end = end }) code)
     (option_and_then code_of (option_and_then as_str (get (codes "code") d))))
-    (number_at (codes "end") d)) (number_at (codes "start") d)
+    (member_number (codes "end") d)) (member_number (codes "start") d)
 
 -- the findings read from the items, in order
 abbrev pub findings_of_items : Items → Option (List Finding)

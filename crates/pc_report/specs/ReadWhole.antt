@@ -14,7 +14,7 @@ use Rattle.pc_report.specs.declared.format.Format.{Format}
 use Rattle.pc_report.specs.declared.report.Row.{Row}
 use Rattle.pc_report.specs.Format.{format_number}
 use Rattle.pc_report.specs.Json.{report_object, FitsWords}
-use Rattle.pc_report.specs.ReadBack.{code_of, number_at, finding_in}
+use Rattle.pc_report.specs.ReadBack.{code_of, member_number, finding_in}
 use Rattle.pc_report.specs.Report.{shown_flow, errors_of, dynamic_count, report_text}
 
 -- ---- what a report says
@@ -100,7 +100,7 @@ abbrev pub row_in : Data → Option RowOfJson
 row_in d = option_and_then
     (λ found. option_and_then
     (λ line. option_map (λ column. record { finding = found; line = line; column = column; flow = flow_in d })
-    (number_at (codes "column") d)) (number_at (codes "line") d)) (finding_in d)
+    (member_number (codes "column") d)) (member_number (codes "line") d)) (finding_in d)
 
 -- the rows read from the items, in order
 abbrev pub rows_of_items : Items → Option (List RowOfJson)
@@ -113,7 +113,7 @@ report_in d = option_and_then
     (λ rows. option_and_then
     (λ errors. option_and_then
     (λ dynamic. option_map (λ format. record { rows = rows; errors = errors; dynamic = dynamic; format = format })
-    (number_at (codes "format") d)) (number_at (codes "dynamic") d)) (number_at (codes "errors") d))
+    (member_number (codes "format") d)) (member_number (codes "dynamic") d)) (member_number (codes "errors") d))
     (option_and_then rows_of_items (option_and_then as_array (get (codes "findings") d)))
 
 -- ---- read from text
@@ -125,12 +125,12 @@ parted_at byte (b ∷ bs) = if b == byte then Some ([], bs) else option_map (λ 
     (parted_at byte bs)
 
 -- the two types around the first ` -> `
-abbrev pub types_in : List ℕ → Option (List ℕ × List ℕ)
-types_in text = option_map (λ parts. (take (length parts.0 - 2) parts.0, drop 1 parts.1)) (parted_at 62 text)
+abbrev pub types_around_arrow : List ℕ → Option (List ℕ × List ℕ)
+types_around_arrow text = option_map (λ parts. (take (length parts.0 - 2) parts.0, drop 1 parts.1)) (parted_at 62 text)
 
 -- the two types after a label and a space
 abbrev pub flow_after : List ℕ → Option (List ℕ × List ℕ)
-flow_after rest = option_and_then (λ parts. types_in parts.1) (parted_at 32 rest)
+flow_after rest = option_and_then (λ parts. types_around_arrow parts.1) (parted_at 32 rest)
 
 -- the row read from a line: the line up to a colon, the column and the code each up to a space, and the types that
 -- follow the label

@@ -25,7 +25,7 @@ use Rattle.pc_rules.specs.Calls.{builtin_signature, class_offers, list_offers, d
 use Rattle.pc_rules.specs.Calls.{builtin_callee, is_two, CallRule, member_rule, length_rule, test_rule, own_callee}
 use Rattle.pc_rules.specs.Calls.{first_type, CalleeLabel, function_offer, value_callee, good_callee, name_callee}
 use Rattle.pc_rules.specs.Calls.{method_callee, all_codes, call_label, signatures, Seat, only_member, expected_type}
-use Rattle.pc_rules.specs.Calls.{type_at, positional_seat, named_seat, nowhere, length_label, plain_call}
+use Rattle.pc_rules.specs.Calls.{parameter_type, positional_seat, named_seat, nowhere, length_label, plain_call}
 use Rattle.pc_rules.specs.Labels.{Labels, whole_label, type_of}
 use Rattle.pc_rules.specs.Lawful.{callee_of, whole_call_label, keyword_seat}
 use Rattle.pc_types.specs.WellFormed.{IsWellFormed}
@@ -197,15 +197,15 @@ module _ (bases : Bases) where
   parameter_at (p ∷ ps) zero h = h.0
   parameter_at (p ∷ ps) (suc k) h = parameter_at ps k h.1
 
-  type_at_well_formed : (p : Option TypedParameter) → ParameterWellFormed bases p → AreWellFormed bases (type_at p)
+  type_at_well_formed : (p : Option TypedParameter) → ParameterWellFormed bases p → AreWellFormed bases (parameter_type p)
   type_at_well_formed None h = tt
   type_at_well_formed (Some p) h = (h, tt)
 
   types_well_formed : (f : Signature → Option TypedParameter) → ((s : Signature) → SignatureWellFormed bases s
       → ParameterWellFormed bases (f s)) → (ss : List Signature) → SignaturesWellFormed bases ss
-      → AreWellFormed bases (flat_map (λ s. type_at (f s)) ss)
+      → AreWellFormed bases (flat_map (λ s. parameter_type (f s)) ss)
   types_well_formed f g [] h = tt
-  types_well_formed f g (s ∷ ss) h = append_well_formed bases (type_at (f s)) _ (type_at_well_formed (f s) (g s h.0))
+  types_well_formed f g (s ∷ ss) h = append_well_formed bases (parameter_type (f s)) _ (type_at_well_formed (f s) (g s h.0))
       (types_well_formed f g ss h.1)
 
   wanted_well_formed : (b : Test) (ts : List Tree) → AreWellFormed bases ts

@@ -14,6 +14,7 @@ use Rattle.pc_rules.specs.Computed.Standing.{HasGivenAll, HasIfAny, HasSignature
 use Rattle.pc_rules.specs.declared.label.Label.{Label as RustLabel}
 use Rattle.pc_rules.specs.declared.expr_context.ExprContext.{ExprContext}
 use Rattle.pc_rules.specs.declared.expr_context.Signature.{Signature}
+use Rattle.pc_rules.specs.Computed.ModuleParents.{class_parents}
 
 module _ {Ty : Type 0} (has later : Ty → Type 0) (k : (ty : Ty) → has ty → later ty) where
   params_kept : (ps : List (Parameter Ty)) → All (HasParameter has) ps → All (HasParameter later) ps
@@ -65,7 +66,7 @@ module _ {Ty : Type 0} (has later : Ty → Type 0) (k : (ty : Ty) → has ty →
 
     -- with another environment, whose types are given and well-formed
     pub stands_after : HasGivenAll has tree s env → (after : List (Option Ty)) → HasEach later after
-        → IsWellFormedEnv s.globals.now.outline.now.parents.now (env_of tree after) → HasGivenAll later tree s after
+        → IsWellFormedEnv (class_parents s.globals.now) (env_of tree after) → HasGivenAll later tree s after
     stands_after h after given well_formed = record {
       classes = entries_kept s.globals.now.classes.now h.classes;
       functions = All-weaker (HasSignature has) (HasSignature later) signature_kept s.globals.now.functions.now

@@ -15,7 +15,7 @@ use Rattle.pc_scope.specs.Resolution.{is_one_of, resolve_in_module}
 use Rattle.pc_types.specs.Tree.{Tree}
 use Rattle.pc_types.specs.Below.{Bases}
 use Rattle.pc_types.specs.WellFormed.{IsWellFormed}
-use Rattle.pc_annotations.specs.Annotations.{named_type, applied_type, empty_type, union_type, readings, read_ann, read_option}
+use Rattle.pc_annotations.specs.Annotations.{named_type, applied_type, empty_type, union_type, read_anns, read_ann, read_option}
 use Rattle.pc_annotations.specs.Annotations.{PartFinds, PartsFind, AnnFinds, OptionAnnFinds}
 use Rattle.pc_annotations.proofs.Earlier.{smaller}
 use Rattle.pc_annotations.proofs.Readings.{read_ann_well_formed}
@@ -84,11 +84,11 @@ module _ (m : Module) (f : Finding) where
         (λ x. absurd x) h
     part_elsewhere (none_type p) h = absurd h
     part_elsewhere (applied p head arguments) h = none_or (applied_type (resolve_in_module m head.text)
-        (readings m bases arguments)) p E09 (PartsFind m bases arguments f) refl (parts_elsewhere arguments) h
+        (read_anns m bases arguments)) p E09 (PartsFind m bases arguments f) refl (parts_elsewhere arguments) h
     part_elsewhere (applied_empty p head) h = none_or (empty_type (resolve_in_module m head.text)) p E09 ⊥ refl
         (λ x. absurd x) h
     part_elsewhere (tree.union p parts) h = elim h [
-      | inl u ↦ none_or (union_type bases (readings m bases parts)) p E10 ⊥ refl (λ x. absurd x) u
+      | inl u ↦ none_or (union_type bases (read_anns m bases parts)) p E10 ⊥ refl (λ x. absurd x) u
       | inr r ↦ parts_elsewhere parts r
     ]
 

@@ -52,9 +52,9 @@ arguments_given arguments keywords = record {
 }
 
 -- the position of the first parameter with a name
-abbrev pub position_of : List TypedParameter → List ℕ → Option ℕ
-position_of [] word = None
-position_of (p ∷ ps) word = if bytes_eq word p.name then Some zero else option_map suc (position_of ps word)
+abbrev pub index_of_parameter : List TypedParameter → List ℕ → Option ℕ
+index_of_parameter [] word = None
+index_of_parameter (p ∷ ps) word = if bytes_eq word p.name then Some zero else option_map suc (index_of_parameter ps word)
 
 -- whether no argument by position fills the parameter of an argument by name
 abbrev pub is_free : ℕ → Option ℕ → Test
@@ -77,7 +77,7 @@ abbrev pub is_suited : GivenArguments → Signature → Test
 is_suited g s =
     nat_le g.positional (length s.parameters)
     && ((s.takes_names || has_none g.named)
-    && (list_all (λ word. is_free g.positional (position_of s.parameters word)) g.named
+    && (list_all (λ word. is_free g.positional (index_of_parameter s.parameters word)) g.named
     && are_filled g.named (parameter_names (take g.positional s.parameters)) (drop g.positional s.parameters)))
 
 -- ---- the result of a call
@@ -277,20 +277,20 @@ expected_type true (t ∷ []) = Some t
 expected_type _ _ = None
 
 -- the type of a parameter, if there is one
-abbrev pub type_at : Option TypedParameter → List Tree
-type_at None = []
-type_at (Some p) = p.type ∷ []
+abbrev pub parameter_type : Option TypedParameter → List Tree
+parameter_type None = []
+parameter_type (Some p) = p.type ∷ []
 
 -- the seat of an argument by position: the parameter at its position of each signature called
 abbrev pub positional_seat : List CallOffer → ℕ → Seat
 positional_seat offers k =
-    let types = flat_map (λ s. type_at (slice_get s.parameters k)) (signatures offers) in
+    let types = flat_map (λ s. parameter_type (slice_get s.parameters k)) (signatures offers) in
     record { want = expected_type (only_member offers) types; into = types }
 
 -- the seat of an argument by name: the first parameter of that name of each member called
 abbrev pub named_seat : List CallOffer → List ℕ → Seat
 named_seat offers word =
-    let types = flat_map (λ s. type_at (field_by_name s.parameters word)) (signatures offers) in
+    let types = flat_map (λ s. parameter_type (field_by_name s.parameters word)) (signatures offers) in
     record { want = expected_type (only_member offers) types; into = types }
 
 -- the seat without expected type and without flows

@@ -48,8 +48,8 @@ pub record Offer : Type 0 where
   pub takes : List Tree
 
 -- an operation that a member supports: it gives this type, and its operand flows into these types
-abbrev pub suits : Tree → List Tree → Offer
-suits gives takes = record { found = []; gives = gives; takes = takes }
+abbrev pub supported : Tree → List Tree → Offer
+supported gives takes = record { found = []; gives = gives; takes = takes }
 
 -- an operation on Any: a dynamic place with this code, which gives this type
 abbrev pub unsure : Code → Tree → Offer
@@ -83,10 +83,10 @@ tuple_item bases (Some i) ts = unwrap_or (slice_get (list_of_trees ts) i) (join_
 
 -- a list, a str and a tuple take an int; a dict takes a key and gives its value
 abbrev pub index_member : Bases → Option ℕ → Tree → Offer
-index_member bases literal (ListOf t) = suits t (Int ∷ [])
-index_member bases literal Str = suits Str (Int ∷ [])
-index_member bases literal (TupleOf ts) = suits (tuple_item bases literal ts) (Int ∷ [])
-index_member bases literal (DictOf k v) = suits v (k ∷ [])
+index_member bases literal (ListOf t) = supported t (Int ∷ [])
+index_member bases literal Str = supported Str (Int ∷ [])
+index_member bases literal (TupleOf ts) = supported (tuple_item bases literal ts) (Int ∷ [])
+index_member bases literal (DictOf k v) = supported v (k ∷ [])
 index_member bases literal Any = unsure A3 Any
 index_member bases literal _ = suits_not E16
 
@@ -94,7 +94,7 @@ index_member bases literal _ = suits_not E16
 
 -- the result of reading a name of an instance: a field, a method, or neither
 abbrev pub attribute_found : Option TypedParameter → Option Method → Offer
-attribute_found (Some f) m = suits f.type []
+attribute_found (Some f) m = supported f.type []
 attribute_found None (Some m) = suits_not E20
 attribute_found None None = suits_not E15
 
@@ -165,10 +165,10 @@ only_type _ _ = None
 
 -- a list gives its items, a dict its keys, a str strs, a tuple the join of its items
 abbrev pub iterate_member : Bases → Tree → Offer
-iterate_member bases (ListOf t) = suits t []
-iterate_member bases (DictOf k v) = suits k []
-iterate_member bases Str = suits Str []
-iterate_member bases (TupleOf ts) = suits (join_all bases (list_of_trees ts)) []
+iterate_member bases (ListOf t) = supported t []
+iterate_member bases (DictOf k v) = supported k []
+iterate_member bases Str = supported Str []
+iterate_member bases (TupleOf ts) = supported (join_all bases (list_of_trees ts)) []
 iterate_member bases Any = unsure A5 Any
 iterate_member bases _ = suits_not E18
 
@@ -176,10 +176,10 @@ iterate_member bases _ = suits_not E18
 
 -- a str is searched for a str, a dict for an int, a str or None; a list and a tuple for anything
 abbrev pub contain_member : Tree → Offer
-contain_member Str = suits Bool (Str ∷ [])
-contain_member (DictOf k v) = suits Bool (Union Int (Union Str NoneType) ∷ [])
-contain_member (ListOf t) = suits Bool []
-contain_member (TupleOf ts) = suits Bool []
+contain_member Str = supported Bool (Str ∷ [])
+contain_member (DictOf k v) = supported Bool (Union Int (Union Str NoneType) ∷ [])
+contain_member (ListOf t) = supported Bool []
+contain_member (TupleOf ts) = supported Bool []
 contain_member Any = unsure A2 Bool
 contain_member _ = suits_not E19
 
@@ -187,10 +187,10 @@ contain_member _ = suits_not E19
 
 -- a str, a list, a dict and a tuple have a length
 abbrev pub length_member : Tree → Offer
-length_member Str = suits Int []
-length_member (ListOf t) = suits Int []
-length_member (DictOf k v) = suits Int []
-length_member (TupleOf ts) = suits Int []
+length_member Str = supported Int []
+length_member (ListOf t) = supported Int []
+length_member (DictOf k v) = supported Int []
+length_member (TupleOf ts) = supported Int []
 length_member Any = unsure A6 Int
 length_member _ = suits_not E27
 
@@ -198,8 +198,8 @@ length_member _ = suits_not E27
 
 -- unary minus takes an int and gives int; bool counts as int
 abbrev pub negative_member : Tree → Offer
-negative_member Int = suits Int []
-negative_member Bool = suits Int []
+negative_member Int = supported Int []
+negative_member Bool = supported Int []
 negative_member Any = unsure A2 Any
 negative_member _ = suits_not E13
 
@@ -243,7 +243,7 @@ row_of_kinds takes gives _ _ = None
 
 -- the result of an operator on one pair of members
 abbrev pub pair_found : Option Tree → Offer
-pair_found (Some t) = suits t []
+pair_found (Some t) = supported t []
 pair_found None = suits_not E13
 
 -- the results of an operator on each pair of a member of the left type and a member of the right type

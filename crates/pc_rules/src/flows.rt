@@ -4,7 +4,7 @@
 ghost use Rattle.std.specs.Prelude.{◌≡◌, All, IfOk, OnOk, map};
 ghost use Rattle.pc_types.specs.Computed.{static_test, assignable_test};
 ghost use Rattle.pc_types.specs.Store.{KeepsTypes};
-ghost use Rattle.pc_rules.specs.Computed.Checkers.{Finds, CheckerKept};
+ghost use Rattle.pc_rules.specs.Computed.Checkers.{AddsNotes, CheckerKept};
 ghost use Rattle.pc_rules.specs.Operations.{Label as LabelOf};
 ghost use Rattle.pc_rules.specs.Context.{is_early};
 ghost use Rattle.pc_rules.specs.Computed.Expressions.{code_unless, flows_of};
@@ -51,7 +51,7 @@ fn note_flow<S: TypeStore>(
     requires from { S.has checker.old.store.now from.now }
     requires into { S.has checker.old.store.now into.now }
     ensures found { OnOk result
-        (Finds checker.old checker.new (own_flow place (S.tree from.now) (S.tree into.now) code)) }
+        (AddsNotes checker.old checker.new (own_flow place (S.tree from.now) (S.tree into.now) code)) }
     ensures goes_on { CheckerKept S.TypeStore checker.old checker.new }
 {
     if is_of_scopes(code) {
@@ -80,7 +80,7 @@ pub fn find_flow<S: TypeStore>(
         (λ c. c ≡ code_unless (static_test parents.now) (assignable_test parents.now) (is_early label.now.codes.items)
         (S.tree label.now.ty) (S.tree into.now)) }
     ensures found { IfOk result
-        (λ c. Finds checker.old checker.new (flow_at place (S.tree label.now.ty) (S.tree into.now) c)) }
+        (λ c. AddsNotes checker.old checker.new (flow_at place (S.tree label.now.ty) (S.tree into.now) c)) }
     ensures goes_on { CheckerKept S.TypeStore checker.old checker.new }
 {
     let code = flow_code(checker.store, parents, label, into);
@@ -102,7 +102,7 @@ pub fn find_flows<S: TypeStore>(
     requires label { S.has checker.old.store.now label.now.ty }
     requires into { All (S.has checker.old.store.now) into.now }
     ensures found { (m : LabelOf) → label_with S.tree label.now ≡ brief m
-        → OnOk result (Finds checker.old checker.new (flows_at place (flows_of parents.now m (map S.tree into.now)))) }
+        → OnOk result (AddsNotes checker.old checker.new (flows_at place (flows_of parents.now m (map S.tree into.now)))) }
     ensures goes_on { CheckerKept S.TypeStore checker.old checker.new }
 {
     let mut codes = Vec::new(checker.alloc);

@@ -8,7 +8,7 @@ ghost use Rattle.pc_notes.specs.Notes.{notes_of};
 ghost use Rattle.pc_rules.specs.Operations.{clean, in_error};
 ghost use Rattle.pc_rules.specs.Context.{is_early};
 ghost use Rattle.pc_rules.specs.Labels.{is_of_scopes};
-ghost use Rattle.pc_rules.specs.Computed.Findings.{own_at, type_noted, name_after, has_code, add_code, once_onto};
+ghost use Rattle.pc_rules.specs.Computed.Findings.{own_at, note_of_type, name_after, has_code, add_code, once_onto};
 ghost use Rattle.pc_rules.specs.Computed.Standing.{label_with, MeansLabel};
 
 use pc_notes::Notes;
@@ -101,7 +101,7 @@ pub fn note_label<S: TypeStore>(
 ) -> Result<(), OutOfMemory>
     requires { S.has store.now label.now.ty }
     ensures { OnOk result (notes_of found.new ≡ notes_of found.old
-        ++ (type_noted keeps shown place (S.tree label.now.ty) ++ flat_map (own_at place) label.now.codes.items)) }
+        ++ (note_of_type keeps shown place (S.tree label.now.ty) ++ flat_map (own_at place) label.now.codes.items)) }
 {
     if keeps {
         found.put_type(store, alloc, shown, place, &label.ty)?;

@@ -32,7 +32,7 @@ use Rattle.pc_tree.specs.declared.tree.Item.{Item as RustItem}
 use Rattle.pc_machine.specs.declared.halt.Halt.{Halt}
 use Rattle.pc_machine.specs.declared.halt.Halt.TheVariants.{Stopped, OutOfMemory as NoMemory}
 use Rattle.pc_machine.specs.declared.machine.Machine.{Machine}
-use Rattle.pc_run.specs.Internal.Items.{base_seen, items_in, item_in, class_made, has_value, param_has_value}
+use Rattle.pc_run.specs.Internal.Items.{base_seen, module_items_in, item_in, class_made, has_value, param_has_value}
 use Rattle.pc_run.specs.Internal.Items.{have_values, member_has_values, members_have_values, with_field_member}
 use Rattle.pc_run.specs.Internal.Items.{with_method, members_made}
 
@@ -176,7 +176,7 @@ class_unbased c w s h = ap (λ b. and_then (comes b w) (from_base c)) h
 pub unbased : (c : ClassDef) (m : Machine) (x : Halt) → TellsOutcome base_seen (Err x) (base_number c.base (state_of m))
     → TellsProgress unit (Err x) m (class_made true c (progress_of m))
 unbased c m (Stopped s) h = class_unbased c (progress_of m) (stop_of s) h
-unbased c m NoMemory h = tt
+unbased c m (NoMemory error) h = tt
 
 class_based : (c : ClassDef) (w : Progress) (base : Option ℕ) → base_number c.base w.state ≡ Gives base
     → class_made true c w ≡ from_base c base w
@@ -212,22 +212,22 @@ class_done c w base k h v e d = class_valued c w base h v
 -- ---- items
 
 items_at : (n : ℕ) (d : Bool) (xs : List RustItem) (i : ℕ) (x : RustItem) (w : Progress) → i < length xs
-    → x ≡ get_or xs i x → items_in n d (map item_of (drop i xs)) w ≡ and_then (item_in n d (item_of x) w)
-    (λ u. items_in n d (map item_of (drop (suc i) xs)))
+    → x ≡ get_or xs i x → module_items_in n d (map item_of (drop i xs)) w ≡ and_then (item_in n d (item_of x) w)
+    (λ u. module_items_in n d (map item_of (drop (suc i) xs)))
 items_at n d [] i x w lt e = absurd (omega arith)
 items_at n d (y ∷ ys) zero x w lt e = ap (λ z. and_then (item_in n d (item_of z) w)
-    (λ u. items_in n d (map item_of ys))) (sym e)
+    (λ u. module_items_in n d (map item_of ys))) (sym e)
 items_at n d (y ∷ ys) (suc i) x w lt e = items_at n d ys i x w (omega arith) e
 
 -- the next item
 pub items_next : (n : ℕ) (d : Bool) (xs : List RustItem) (i : ℕ) (x : RustItem) (w : Progress) → i < length xs
-    → x ≡ get_or xs i x → items_in n d (map item_of (drop i xs)) w ≡ and_then (item_in n d (item_of x) w)
-    (λ u. items_in n d (map item_of (drop (i + 1) xs)))
+    → x ≡ get_or xs i x → module_items_in n d (map item_of (drop i xs)) w ≡ and_then (item_in n d (item_of x) w)
+    (λ u. module_items_in n d (map item_of (drop (i + 1) xs)))
 items_next n d xs i x w lt e = let h : suc i ≡ i + 1 = omega arith in items_at n d xs i x w lt e
-    ∙ ap (λ k. and_then (item_in n d (item_of x) w) (λ u. items_in n d (map item_of (drop k xs)))) h
+    ∙ ap (λ k. and_then (item_in n d (item_of x) w) (λ u. module_items_in n d (map item_of (drop k xs)))) h
 
 pub items_end : (n : ℕ) (d : Bool) (xs : List RustItem) (i : ℕ) (w : Progress) → length xs ≤ i
-    → items_in n d (map item_of (drop i xs)) w ≡ Came tt w
+    → module_items_in n d (map item_of (drop i xs)) w ≡ Came tt w
 items_end n d [] zero w h = refl
 items_end n d [] (suc i) w h = refl
 items_end n d (y ∷ ys) zero w h = absurd (omega arith)

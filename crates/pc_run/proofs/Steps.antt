@@ -19,7 +19,7 @@ use Rattle.pc_machine.specs.Plain.{Progress, After, Came, Step, and_then, charge
 use Rattle.pc_machine.specs.Runs.{plain_parts}
 use Rattle.pc_machine.specs.Evaluation as text
 use Rattle.pc_machine.specs.Evaluation.{binds_local}
-use Rattle.pc_run.specs.Internal.Nodes.{node, exec_one, branches_in}
+use Rattle.pc_run.specs.Internal.Nodes.{charged_expr, exec_one, branches_in}
 use Rattle.pc_machine.specs.Performed.{empty_charged}
 use Rattle.pc_machine.specs.Machine.{TellsProgress, unit, flow_of, value_if_any}
 
@@ -27,7 +27,7 @@ use Rattle.pc_machine.specs.Machine.{TellsProgress, unit, flow_of, value_if_any}
 pub ends : {A B C D : Type 0} (va : A → B) (vc : C → D) (x : Halt) (m : Machine) (l : After B) (f : B → Step D)
     → TellsProgress va (Err x) m l → TellsProgress vc (Err x) m (and_then l f)
 ends va vc (Stopped s) m l f h = rw h refl
-ends va vc OutOfMemory m l f h = tt
+ends va vc (OutOfMemory error) m l f h = tt
 
 -- an early end of something that is something else
 pub ends_as : {A B : Type 0} (v : A → B) (x : Halt) (m : Machine) (l k : After B) → k ≡ l → TellsProgress v (Err x) m l
@@ -38,7 +38,7 @@ ends_as v x m l k e h = rw e h
 pub record Charged (n : ℕ) (e : Expr) (w w1 : Progress) : Type 0 where
   pub k : ℕ
   pub room : w1.fuel < k
-  pub is : (plain_parts n).eval e w ≡ node k e w1
+  pub is : (plain_parts n).eval e w ≡ charged_expr k e w1
 
 pub charged_eval : (n : ℕ) (e : Expr) (w w1 : Progress) → w1.fuel < w.fuel → w.fuel < n → charge w ≡ Came tt w1
     → Charged n e w w1
@@ -46,7 +46,7 @@ charged_eval zero e w w1 less lt h = absurd (omega arith)
 charged_eval (suc k) e w w1 less lt h = record {
   k = k;
   room = omega arith;
-  is = ap (λ l. and_then l (λ u. node k e)) h;
+  is = ap (λ l. and_then l (λ u. charged_expr k e)) h;
 }
 
 -- ---- statements

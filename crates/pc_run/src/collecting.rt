@@ -14,10 +14,8 @@ use pc_value::Value;
 pub fn keep(values: &mut Vec<Value>, value: Value) -> Result<(), OutOfMemory>
     ensures { OnOk result (values.new.items ≡ values.old.items ++ value ∷ []) }
 {
-    match values.push(value) {
-        Ok(()) => Ok(()),
-        Err(_) => Err(OutOfMemory),
-    }
+    values.push(value)?;
+    Ok(())
 }
 
 /// Adds an entry of a dict.
@@ -30,10 +28,8 @@ pub fn keep_entry(
     ensures { OnOk result (map entry_of entries.new.items
         ≡ map entry_of entries.old.items ++ record { key = value_of key; value = value_of value } ∷ []) }
 {
-    match entries.push(pc_value::DictEntry { key, value }) {
-        Ok(()) => Ok(()),
-        Err(_) => Err(OutOfMemory),
-    }
+    entries.push(pc_value::DictEntry { key, value })?;
+    Ok(())
 }
 
 /// Adds an argument by name.
@@ -48,8 +44,6 @@ pub fn keep_named<'m>(
       value = value_of value;
     } ∷ []) }
 {
-    match named.push(NamedValue { name, value }) {
-        Ok(()) => Ok(()),
-        Err(_) => Err(OutOfMemory),
-    }
+    named.push(NamedValue { name, value })?;
+    Ok(())
 }

@@ -5,7 +5,7 @@ ghost use Rattle.std.specs.Prelude.{◌≤◌, ◌<◌, ℕ, OnOk, if◌then◌e
 ghost use Rattle.pc_tree.specs.Tree.{expr_of};
 ghost use Rattle.pc_value.specs.Meaning.{value_of};
 ghost use Rattle.pc_machine.specs.Runs.{plain_parts};
-ghost use Rattle.pc_run.specs.Internal.Nodes.{node, all_of, entries_in, keywords_in};
+ghost use Rattle.pc_run.specs.Internal.Nodes.{charged_expr, all_of, entries_in, keywords_in};
 ghost use Rattle.pc_machine.specs.Machine.{TellsProgress, progress_of};
 ghost use Rattle.pc_run.specs.Internal.Nodes.{values_of_vec, entries_of_vec, named_of_vec};
 ghost use Rattle.pc_tree.specs.Lists.{exprs_of_list, entries_of_list, keywords_of_list};
@@ -37,7 +37,7 @@ pub fn eval<'m>(machine: &mut Machine<'m>, alloc: Global, e: &'m Expr) -> Result
 #[cycle(evaluate)]
 fn eval_node<'m>(machine: &mut Machine<'m>, alloc: Global, e: &'m Expr) -> Result<Value, Halt>
     ensures plain { (n : ℕ) → machine.old.fuel < n
-        → TellsProgress value_of result machine.new (node n (expr_of e.now) (progress_of machine.old)) }
+        → TellsProgress value_of result machine.new (charged_expr n (expr_of e.now) (progress_of machine.old)) }
     ensures fuel { machine.new.fuel ≤ machine.old.fuel }
 {
     match e {
@@ -83,7 +83,7 @@ fn eval_negative<'m>(
 ) -> Result<Value, Halt>
     ensures plain { (n : ℕ) → machine.old.fuel < n
         → TellsProgress value_of result machine.new
-        (node n (negative place (expr_of operand.now)) (progress_of machine.old)) }
+        (charged_expr n (negative place (expr_of operand.now)) (progress_of machine.old)) }
     ensures fuel { machine.new.fuel ≤ machine.old.fuel }
 {
     let v = eval(machine, alloc, operand)?;
@@ -101,7 +101,7 @@ fn eval_not<'m>(
 ) -> Result<Value, Halt>
     ensures plain { (n : ℕ) → machine.old.fuel < n
         → TellsProgress value_of result machine.new
-        (node n (negation place (expr_of operand.now)) (progress_of machine.old)) }
+        (charged_expr n (negation place (expr_of operand.now)) (progress_of machine.old)) }
     ensures fuel { machine.new.fuel ≤ machine.old.fuel }
 {
     let v = eval(machine, alloc, operand)?;
@@ -121,7 +121,7 @@ fn eval_attribute<'m>(
 ) -> Result<Value, Halt>
     ensures plain { (n : ℕ) → machine.old.fuel < n
         → TellsProgress value_of result machine.new
-        (node n (attribute place (expr_of object.now) (name_of field.now)) (progress_of machine.old)) }
+        (charged_expr n (attribute place (expr_of object.now) (name_of field.now)) (progress_of machine.old)) }
     ensures fuel { machine.new.fuel ≤ machine.old.fuel }
 {
     let v = eval(machine, alloc, object)?;
@@ -139,7 +139,7 @@ fn eval_tuple<'m>(
 ) -> Result<Value, Halt>
     ensures plain { (n : ℕ) → machine.old.fuel < n
         → TellsProgress value_of result machine.new
-        (node n (tuple place (exprs_of_list items.now)) (progress_of machine.old)) }
+        (charged_expr n (tuple place (exprs_of_list items.now)) (progress_of machine.old)) }
     ensures fuel { machine.new.fuel ≤ machine.old.fuel }
 {
     let values = eval_all(machine, alloc, items)?;
@@ -157,7 +157,7 @@ fn eval_list<'m>(
 ) -> Result<Value, Halt>
     ensures plain { (n : ℕ) → machine.old.fuel < n
         → TellsProgress value_of result machine.new
-        (node n (list place (exprs_of_list items.now)) (progress_of machine.old)) }
+        (charged_expr n (list place (exprs_of_list items.now)) (progress_of machine.old)) }
     ensures fuel { machine.new.fuel ≤ machine.old.fuel }
 {
     let values = eval_all(machine, alloc, items)?;
@@ -175,7 +175,7 @@ fn eval_dict<'m>(
 ) -> Result<Value, Halt>
     ensures plain { (n : ℕ) → machine.old.fuel < n
         → TellsProgress value_of result machine.new
-        (node n (dict place (entries_of_list items.now)) (progress_of machine.old)) }
+        (charged_expr n (dict place (entries_of_list items.now)) (progress_of machine.old)) }
     ensures fuel { machine.new.fuel ≤ machine.old.fuel }
 {
     let entries = eval_entries(machine, alloc, items)?;
@@ -195,7 +195,7 @@ fn eval_binary<'m>(
 ) -> Result<Value, Halt>
     ensures plain { (n : ℕ) → machine.old.fuel < n
         → TellsProgress value_of result machine.new
-        (node n (binary place operator (expr_of left.now) (expr_of right.now)) (progress_of machine.old)) }
+        (charged_expr n (binary place operator (expr_of left.now) (expr_of right.now)) (progress_of machine.old)) }
     ensures fuel { machine.new.fuel ≤ machine.old.fuel }
 {
     let v = eval(machine, alloc, left)?;
@@ -216,7 +216,7 @@ fn eval_compare<'m>(
 ) -> Result<Value, Halt>
     ensures plain { (n : ℕ) → machine.old.fuel < n
         → TellsProgress value_of result machine.new
-        (node n (compare place operator (expr_of left.now) (expr_of right.now)) (progress_of machine.old)) }
+        (charged_expr n (compare place operator (expr_of left.now) (expr_of right.now)) (progress_of machine.old)) }
     ensures fuel { machine.new.fuel ≤ machine.old.fuel }
 {
     let v = eval(machine, alloc, left)?;
@@ -236,7 +236,7 @@ fn eval_none_test<'m>(
 ) -> Result<Value, Halt>
     ensures plain { (n : ℕ) → machine.old.fuel < n
         → TellsProgress value_of result machine.new
-        (node n (if negated then is_not_none place (expr_of operand.now) else is_none place (expr_of operand.now))
+        (charged_expr n (if negated then is_not_none place (expr_of operand.now) else is_none place (expr_of operand.now))
         (progress_of machine.old)) }
     ensures fuel { machine.new.fuel ≤ machine.old.fuel }
 {
@@ -259,7 +259,7 @@ fn eval_and<'m>(
 ) -> Result<Value, Halt>
     ensures plain { (n : ℕ) → machine.old.fuel < n
         → TellsProgress value_of result machine.new
-        (node n (conjunction place (expr_of left.now) (expr_of right.now)) (progress_of machine.old)) }
+        (charged_expr n (conjunction place (expr_of left.now) (expr_of right.now)) (progress_of machine.old)) }
     ensures fuel { machine.new.fuel ≤ machine.old.fuel }
 {
     let first = eval(machine, alloc, left)?;
@@ -282,7 +282,7 @@ fn eval_or<'m>(
 ) -> Result<Value, Halt>
     ensures plain { (n : ℕ) → machine.old.fuel < n
         → TellsProgress value_of result machine.new
-        (node n (disjunction place (expr_of left.now) (expr_of right.now)) (progress_of machine.old)) }
+        (charged_expr n (disjunction place (expr_of left.now) (expr_of right.now)) (progress_of machine.old)) }
     ensures fuel { machine.new.fuel ≤ machine.old.fuel }
 {
     let first = eval(machine, alloc, left)?;
@@ -305,7 +305,7 @@ fn eval_index<'m>(
 ) -> Result<Value, Halt>
     ensures plain { (n : ℕ) → machine.old.fuel < n
         → TellsProgress value_of result machine.new
-        (node n (index place (expr_of object.now) (expr_of key.now)) (progress_of machine.old)) }
+        (charged_expr n (index place (expr_of object.now) (expr_of key.now)) (progress_of machine.old)) }
     ensures fuel { machine.new.fuel ≤ machine.old.fuel }
 {
     let v = eval(machine, alloc, object)?;

@@ -7,7 +7,7 @@ ghost use Rattle.pc_value.specs.Meaning.{value_of};
 ghost use Rattle.pc_machine.specs.Calls.{class_at};
 ghost use Rattle.pc_machine.specs.Evaluation.{base_number, defaults_last, class_behind, fields_of, methods_of};
 ghost use Rattle.pc_machine.specs.Evaluation.{ancestors_of, binds_global, binds_class};
-ghost use Rattle.pc_run.specs.Internal.Items.{items_in, item_in, class_made, has_value, have_values, member_has_values};
+ghost use Rattle.pc_run.specs.Internal.Items.{module_items_in, item_in, class_made, has_value, have_values, member_has_values};
 ghost use Rattle.pc_run.specs.Internal.Items.{members_have_values, members_made, base_seen};
 ghost use Rattle.pc_machine.specs.Machine.{TellsProgress, TellsOutcome, class_of, found_class, bound_of, parameter_of};
 ghost use Rattle.pc_machine.specs.Machine.{method_of_def, literal_value, unit, progress_of, state_of};
@@ -262,10 +262,8 @@ fn bind_class<'m>(
     ensures fuel { machine.new.fuel ≡ machine.old.fuel }
 {
     let number = machine.classes.len();
-    match machine.classes.push(class) {
-        Ok(()) => bind_global(machine, name, Bound::Class(number)),
-        Err(_) => Err(OutOfMemory),
-    }
+    machine.classes.push(class)?;
+    bind_global(machine, name, Bound::Class(number))
 }
 
 /// Makes a class: `@dataclass`, the base, the defaults, the order of its fields.
@@ -333,7 +331,7 @@ fn run_items<'m>(
 ) -> Result<(), Halt>
     ensures plain { (n : ℕ) → machine.old.fuel < n
         → TellsProgress unit result machine.new
-        (items_in n imports_dataclass (map item_of items.now) (progress_of machine.old)) }
+        (module_items_in n imports_dataclass (map item_of items.now) (progress_of machine.old)) }
     ensures fuel { machine.new.fuel ≤ machine.old.fuel }
 {
     for item in items {

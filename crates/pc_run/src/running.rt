@@ -60,7 +60,7 @@ fn trace_of(machine: Machine<'_>, ended: Result<Value, Halt>) -> Result<Trace, O
             events: machine.events,
             end: end_of_stop(stop),
         }),
-        Err(Halt::OutOfMemory) => Err(OutOfMemory),
+        Err(Halt::OutOfMemory(error)) => Err(error),
     }
 }
 

@@ -7,7 +7,7 @@ use Rattle.pc_tree.specs.declared.tree.StmtKind.TheVariants as rust_stmt
 use Rattle.pc_tree.specs.Suites.{branches_of_stmt, last_suite}
 use Rattle.pc_tree.specs.Tree.{Stmt, Stmts, stmt_of_kind, pass, breaks, continues, returns, asserts, annotated, assigns}
 use Rattle.pc_tree.specs.Tree.{evaluates, while_loop, for_loop, conditional}
-use Rattle.pc_scope_findings.specs.Unreached.{first_of, first_places, unreached_places, unreached_in}
+use Rattle.pc_scope_findings.specs.Unreached.{first_token_place, first_places, unreached_places, unreached_in}
 use Rattle.pc_scope_findings.specs.Unreached.{unreached_in_branches}
 
 -- what is unreached of the statements after one, by whether it can complete
@@ -15,7 +15,7 @@ abbrev pub behind : Bool → Stmts → List Place
 behind reached rest = if reached then unreached_places rest else first_places rest
 
 -- a statement's first token is at the place that stands beside its kind
-pub first_is : (p : Place) (k : StmtKind) → first_of (stmt_of_kind p k) ≡ p
+pub first_is : (p : Place) (k : StmtKind) → first_token_place (stmt_of_kind p k) ≡ p
 first_is p rust_stmt.Pass = refl
 first_is p rust_stmt.Break = refl
 first_is p rust_stmt.Continue = refl

@@ -8,23 +8,23 @@ use Rattle.pc_tree.specs.Tree.{more_branches}
 use Rattle.pc_scope.specs.Reach.{completes}
 
 -- the place of a statement's first token
-abbrev pub first_of : Stmt → Place
-first_of (pass p) = p
-first_of (breaks p) = p
-first_of (continues p) = p
-first_of (returns p value) = p
-first_of (asserts p condition message) = p
-first_of (annotated p n annotation value) = p
-first_of (assigns p target value) = p
-first_of (evaluates p value) = p
-first_of (while_loop p condition body) = p
-first_of (for_loop p n iterable body) = p
-first_of (conditional p arms otherwise) = p
+abbrev pub first_token_place : Stmt → Place
+first_token_place (pass p) = p
+first_token_place (breaks p) = p
+first_token_place (continues p) = p
+first_token_place (returns p value) = p
+first_token_place (asserts p condition message) = p
+first_token_place (annotated p n annotation value) = p
+first_token_place (assigns p target value) = p
+first_token_place (evaluates p value) = p
+first_token_place (while_loop p condition body) = p
+first_token_place (for_loop p n iterable body) = p
+first_token_place (conditional p arms otherwise) = p
 
 -- the place of the first statement of a suite, if it has one
 abbrev pub first_places : Stmts → List Place
 first_places no_stmts = []
-first_places (more_stmts s rest) = first_of s ∷ []
+first_places (more_stmts s rest) = first_token_place s ∷ []
 
 -- the places of the first statement after one that cannot complete, in each suite that is reached
 abbrev mutual

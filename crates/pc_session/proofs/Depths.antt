@@ -40,7 +40,7 @@ use Rattle.pc_session.specs.Replies.{symbols_data}
 use Rattle.pc_session.specs.Sent.{IsTextOf, AreSent, SendsRefusal}
 use Rattle.pc_session.specs.Sessions.{IsTurn, OnOpen, OnChange, OnClose, OnNoMethod, OnFresh, OnRunning, OnRequest}
 use Rattle.pc_session.specs.Sessions.{OnNotice, OnStage, OnNotification, OnMethod, OnMessage, IsUnreadable, Step}
-use Rattle.pc_session.specs.Sessions.{IsPulled, IsHovered, IsListed, RepliesWith, unknown_of, unknown_all, told_of}
+use Rattle.pc_session.specs.Sessions.{IsPulled, IsHovered, IsSymbolReply, RepliesWith, unknown_of, unknown_all, told_of}
 use Rattle.pc_session.specs.Sessions.{cleared, OnSpoiled, opened_in, changed_in, identifier_or_null}
 use Rattle.pc_session.specs.Spelled.{IsSpelled, AreSpelled}
 use Rattle.pc_session.specs.States.{State}
@@ -320,7 +320,7 @@ module _ (finds : List ℕ → CheckOutcome → Type 0) where
       answered it.answered low_reply
 
   listed : (message id : Data) (old new : State) (replies : List Data) → depth id ≡ 0
-      → RepliesWith (IsListed message id old) old replies new → AreShallow replies
+      → RepliesWith (IsSymbolReply message id old) old replies new → AreShallow replies
   listed message id old new replies flat it =
       let Low : Data → Type 0 = λ d. depth d ≤ max_depth in
       let low_reply : Low it.reply = elim it.is_reply [

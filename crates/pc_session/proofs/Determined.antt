@@ -28,7 +28,7 @@ use Rattle.pc_session.specs.Publications.{IsSentWhere}
 use Rattle.pc_session.specs.Replies.{publish_data, log_data, result_data, full_data, hover_data, capabilities_data}
 use Rattle.pc_session.specs.Replies.{refusal_of, symbols_data}
 use Rattle.pc_session.specs.Sessions.{IsTurn, IsKept, IsOpened, IsChanged, IsOutdated, IsNotOpen, IsUnnamed, IsClosed}
-use Rattle.pc_session.specs.Sessions.{IsPulled, IsHovered, IsListed, RepliesWith, OnOpen, OnChange, OnClose, OnNoMethod}
+use Rattle.pc_session.specs.Sessions.{IsPulled, IsHovered, IsSymbolReply, RepliesWith, OnOpen, OnChange, OnClose, OnNoMethod}
 use Rattle.pc_session.specs.Sessions.{OnFresh, OnRunning, OnRequest, OnNotice, OnStage, OnNotification, OnMethod, OnMessage}
 use Rattle.pc_session.specs.Sessions.{OnSpoiled, Step, named_document, opened_in, changed_in, at_stage, with_documents}
 use Rattle.pc_session.specs.Sessions.{cleared, exit_status, forgot, unknown_all, told_of, identifier_or_null}
@@ -208,7 +208,7 @@ module _ (finds : List ℕ → CheckOutcome → Type 0) (same : IsDetermined fin
   ]
   one_hovered message id old a b (inr x) (inr y) = x.1 ∙ sym y.1
 
-  one_listed : (message id : Data) (old : State) (a b : Data) → IsListed message id old a → IsListed message id old b
+  one_listed : (message id : Data) (old : State) (a b : Data) → IsSymbolReply message id old a → IsSymbolReply message id old b
       → a ≡ b
   one_listed message id old a b (inl x) (inl y) =
       let Has : OpenDocument → Type 0 = λ d. AreSymbolsAs old.agreed.encoding d.python d.text x.symbols in
@@ -224,7 +224,7 @@ module _ (finds : List ℕ → CheckOutcome → Type 0) (same : IsDetermined fin
   once_running Hover id message old =
       once_with (IsHovered finds message id old) old (one_hovered message id old)
   once_running Diagnostic id message old = once_with (IsPulled finds message id old) old (one_pulled message id old)
-  once_running DocumentSymbol id message old = once_with (IsListed message id old) old (one_listed message id old)
+  once_running DocumentSymbol id message old = once_with (IsSymbolReply message id old) old (one_listed message id old)
   once_running CodeAction id message old = once_turn (result_data id (array no_items) ∷ []) old
   once_running Initialize id message old = once_turn (refusal_of InvalidRequest id ∷ []) old
   once_running _ id message old = once_turn (refusal_of MethodNotFound id ∷ []) old

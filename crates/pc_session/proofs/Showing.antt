@@ -17,7 +17,7 @@ use Rattle.pc_session.specs.declared.session.Stage.TheVariants.{Fresh, Running, 
 use Rattle.pc_session.specs.Publications.{IsSentWhere}
 use Rattle.pc_session.specs.Replies.{publish_data, refusal_of}
 use Rattle.pc_session.specs.Sessions.{IsTurn, IsKept, IsUnreadable, IsClosed, at_stage, with_documents, forgot}
-use Rattle.pc_session.specs.Sessions.{unknown_all, told_of, IsPulled, IsHovered, IsListed}
+use Rattle.pc_session.specs.Sessions.{unknown_all, told_of, IsPulled, IsHovered, IsSymbolReply}
 use Rattle.pc_session.specs.Shown.{published_after, last_publication, lost_data, IsCleared, IsShown, IsShownWhereSent}
 use Rattle.pc_session.specs.Shown.{IsInStep}
 use Rattle.pc_session.specs.Spoiled.{spoiled_at}
@@ -59,7 +59,7 @@ spoiled_running Fresh message old document e = absurd (none_some e)
 spoiled_running ShutDown message old document e = absurd (none_some e)
 spoiled_running (Ended status) message old document e = absurd (none_some e)
 
-pub list_passes : (message id : Data) (old : State) (reply : Data) → IsListed message id old reply → (uri : List ℕ)
+pub list_passes : (message id : Data) (old : State) (reply : Data) → IsSymbolReply message id old reply → (uri : List ℕ)
     → Passes uri (reply ∷ [])
 list_passes message id old reply (inl it) uri = subst (λ r. Passes uri (r ∷ [])) (sym it.replied) (λ last. refl)
 list_passes message id old reply (inr it) uri = subst (λ r. Passes uri (r ∷ [])) (sym it.1) (λ last. refl)

@@ -47,8 +47,8 @@ abbrev pub IsLetBe : State → List Data → State → Type 0
 IsLetBe old replies new = IsTurn [] old replies new
 
 -- this alone is replied, and nothing changes
-abbrev pub IsAnswered : Data → State → List Data → State → Type 0
-IsAnswered reply old replies new = IsTurn (reply ∷ []) old replies new
+abbrev pub RepliesAlone : Data → State → List Data → State → Type 0
+RepliesAlone reply old replies new = IsTurn (reply ∷ []) old replies new
 
 -- after `exit` the program ends: with status 0 after `shutdown`, otherwise 1
 abbrev pub exit_status : Stage → ℕ
@@ -85,14 +85,14 @@ named_document message old = option_and_then (λ uri. document_at uri old.docume
 -- a message names no document: the log says so, and nothing changes
 pub record IsUnnamed (told : List ℕ) (message : Data) (old : State) (replies : List Data) (new : State) : Type 0 where
   pub none : uri_in message ≡ None
-  pub answered : IsAnswered (log_data told) old replies new
+  pub answered : RepliesAlone (log_data told) old replies new
 
 -- a message names a document that is not open: the log says so, and nothing changes
 pub record IsNotOpen (told : List ℕ) (message : Data) (old : State) (replies : List Data) (new : State) : Type 0 where
   pub uri : List ℕ
   pub names : uri_in message ≡ Some uri
   pub closed : is_open uri old.documents ≡ false
-  pub answered : IsAnswered (log_data told) old replies new
+  pub answered : RepliesAlone (log_data told) old replies new
 
 -- an empty publication for a document, or nothing if the client pulls diagnostics
 abbrev pub cleared : Bool → List ℕ → List Data
@@ -118,22 +118,22 @@ identifier_or_null id = if is_identifier id then id else null
 
 -- a message without a method: a reply of the client is let be, and what is no request gets an error
 abbrev pub OnNoMethod : Option Data → Data → State → List Data → State → Type 0
-OnNoMethod None message old replies new = IsAnswered (refusal_of InvalidRequest null) old replies new
+OnNoMethod None message old replies new = RepliesAlone (refusal_of InvalidRequest null) old replies new
 OnNoMethod (Some id) message old replies new = ((is_reply message ≡ true) × IsLetBe old replies new)
-    ⊎ ((is_reply message ≡ false) × IsAnswered (refusal_of InvalidRequest (identifier_or_null id)) old replies new)
+    ⊎ ((is_reply message ≡ false) × RepliesAlone (refusal_of InvalidRequest (identifier_or_null id)) old replies new)
 
 -- one reply of this kind, and nothing changes
 pub record RepliesWith (IsReply : Data → Type 0) (old : State) (replies : List Data) (new : State) : Type 0 where
   pub reply : Data
   pub is_reply : IsReply reply
-  pub answered : IsAnswered reply old replies new
+  pub answered : RepliesAlone reply old replies new
 
 -- a request before `initialize` gets an error; `initialize` begins the session
 abbrev pub OnFresh : LspMethod → Data → Data → State → List Data → State → Type 0
 OnFresh Initialize id message old replies new =
     IsTurn (result_data id (capabilities_data (agreed_in message).encoding) ∷ [])
     (record { stage = Running; agreed = agreed_in message; documents = old.documents }) replies new
-OnFresh method id message old replies new = IsAnswered (refusal_of ServerNotInitialized id) old replies new
+OnFresh method id message old replies new = RepliesAlone (refusal_of ServerNotInitialized id) old replies new
 
 -- the document that a message opens
 abbrev pub opened_in : Data → List ℕ → OpenDocument
@@ -158,7 +158,7 @@ pub record IsOutdated (message : Data) (old : State) (replies : List Data) (new 
   pub document : OpenDocument
   pub named : named_document message old ≡ Some document
   pub older : is_older (version_in message) document.version ≡ true
-  pub answered : IsAnswered (log_data (codes "didChange gives an older version: it was let be")) old replies new
+  pub answered : RepliesAlone (log_data (codes "didChange gives an older version: it was let be")) old replies new
 
 -- the reply to a request for symbols has those of the open document that the message names
 pub record IsListedOf (message id : Data) (old : State) (reply : Data) : Type 0 where
@@ -169,8 +169,8 @@ pub record IsListedOf (message id : Data) (old : State) (reply : Data) : Type 0 
   pub replied : reply ≡ result_data id (symbols_data symbols)
 
 -- the reply to a request for symbols: those of the document, or an error where the message names none that is open
-abbrev pub IsListed : Data → Data → State → Data → Type 0
-IsListed message id old reply = IsListedOf message id old reply
+abbrev pub IsSymbolReply : Data → Data → State → Data → Type 0
+IsSymbolReply message id old reply = IsListedOf message id old reply
     ⊎ ((named_document message old ≡ None) × (reply ≡ refusal_of InvalidParams id))
 
 module _ (finds : List ℕ → CheckOutcome → Type 0) where
@@ -239,16 +239,16 @@ module _ (finds : List ℕ → CheckOutcome → Type 0) where
       IsTurn (result_data id null ∷ []) (at_stage ShutDown old) replies new
   OnRunning Hover id message old replies new = RepliesWith (IsHovered message id old) old replies new
   OnRunning Diagnostic id message old replies new = RepliesWith (IsPulled message id old) old replies new
-  OnRunning DocumentSymbol id message old replies new = RepliesWith (IsListed message id old) old replies new
-  OnRunning CodeAction id message old replies new = IsAnswered (result_data id (array no_items)) old replies new
-  OnRunning Initialize id message old replies new = IsAnswered (refusal_of InvalidRequest id) old replies new
-  OnRunning method id message old replies new = IsAnswered (refusal_of MethodNotFound id) old replies new
+  OnRunning DocumentSymbol id message old replies new = RepliesWith (IsSymbolReply message id old) old replies new
+  OnRunning CodeAction id message old replies new = RepliesAlone (result_data id (array no_items)) old replies new
+  OnRunning Initialize id message old replies new = RepliesAlone (refusal_of InvalidRequest id) old replies new
+  OnRunning method id message old replies new = RepliesAlone (refusal_of MethodNotFound id) old replies new
 
   -- a request, by how far the session has come; after `shutdown` none is valid
   abbrev pub OnRequest : Stage → LspMethod → Data → Data → State → List Data → State → Type 0
   OnRequest Fresh method id message old replies new = OnFresh method id message old replies new
   OnRequest Running method id message old replies new = OnRunning method id message old replies new
-  OnRequest stage method id message old replies new = IsAnswered (refusal_of InvalidRequest id) old replies new
+  OnRequest stage method id message old replies new = RepliesAlone (refusal_of InvalidRequest id) old replies new
 
   -- a notification of a session that runs, by its method; those that are not known are let be
   abbrev pub OnNotice : LspMethod → Data → State → List Data → State → Type 0
@@ -272,10 +272,10 @@ module _ (finds : List ℕ → CheckOutcome → Type 0) where
   OnMethod method None message old replies new = OnNotification method old.stage message old replies new
   OnMethod method (Some id) message old replies new =
       ((is_identifier id ≡ true) × OnRequest old.stage method id message old replies new)
-      ⊎ ((is_identifier id ≡ false) × IsAnswered (refusal_of InvalidRequest null) old replies new)
+      ⊎ ((is_identifier id ≡ false) × RepliesAlone (refusal_of InvalidRequest null) old replies new)
 
   -- a message that names a method
-  pub record HasMethod (message : Data) (old : State) (replies : List Data) (new : State) : Type 0 where
+  pub record NamesMethod (message : Data) (old : State) (replies : List Data) (new : State) : Type 0 where
     pub method : LspMethod
     pub names : method_in message ≡ Some method
     pub answered : OnMethod method (get (codes "id") message) message old replies new
@@ -287,7 +287,7 @@ module _ (finds : List ℕ → CheckOutcome → Type 0) where
 
   -- a message, by whether it names a method
   abbrev pub OnMessage : Data → State → List Data → State → Type 0
-  OnMessage message old replies new = HasMethod message old replies new ⊎ HasNoMethod message old replies new
+  OnMessage message old replies new = NamesMethod message old replies new ⊎ HasNoMethod message old replies new
 
   -- the bytes are a message in JSON, and this comes of it
   pub record IsRead (bytes : List ℕ) (old : State) (replies : List Data) (new : State) : Type 0 where

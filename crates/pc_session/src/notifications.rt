@@ -5,7 +5,7 @@ ghost use Rattle.serde_json.specs.View.{view};
 ghost use Rattle.pc_documents.specs.Documents.{opened_of};
 ghost use Rattle.pc_session.specs.Answers.{after};
 ghost use Rattle.pc_session.specs.Replies.{log_data};
-ghost use Rattle.pc_session.specs.Sessions.{IsLetBe, IsAnswered, IsKept, OnOpen, OnChange, OnClose, OnNotice, OnStage};
+ghost use Rattle.pc_session.specs.Sessions.{IsLetBe, RepliesAlone, IsKept, OnOpen, OnChange, OnClose, OnNotice, OnStage};
 ghost use Rattle.pc_session.specs.Sessions.{OnNotification, changed_in, cleared, exit_status, named_document};
 ghost use Rattle.pc_session.specs.States.{state_of};
 
@@ -14,8 +14,8 @@ use crate::published::published;
 use crate::replies::{log, publish};
 use crate::requests::named;
 use crate::session::{Answer, Session, SessionChange, Stage};
-use crate::settings::{is_python, owned};
-use pc_documents::{Checker, Document, place_of};
+use crate::settings::{copied_text, is_python};
+use pc_documents::{Checker, Document, index_of_document};
 use pc_source::OutOfMemory;
 use serde_json::Value;
 use std::alloc::Global;
@@ -44,7 +44,7 @@ pub(crate) fn one(alloc: Global, reply: Value, change: SessionChange) -> Result<
 
 /// Returns an answer that writes a line to the client's log and changes nothing.
 fn told(session: &Session, alloc: Global, text: &str) -> Result<Answer, OutOfMemory>
-    ensures { IfOk result (λ a. IsAnswered (log_data text.now) (state_of session.now) (map view a.replies.items)
+    ensures { IfOk result (λ a. RepliesAlone (log_data text.now) (state_of session.now) (map view a.replies.items)
         (after a.change (state_of session.now))) }
 {
     let _ = session;
@@ -53,7 +53,7 @@ fn told(session: &Session, alloc: Global, text: &str) -> Result<Answer, OutOfMem
 }
 
 /// Keeps a document under its URI, in place of an earlier one, and publishes its diagnostics.
-pub(crate) fn kept<C: Checker>(
+pub(crate) fn keep_document<C: Checker>(
     session: &Session,
     checker: &C,
     alloc: Global,
@@ -89,9 +89,9 @@ fn opened<C: Checker>(
                 uri: String::from_str(alloc, uri)?,
                 version: version_in(message),
                 python: is_python(message),
-                text: owned(alloc, opened_text(message))?,
+                text: copied_text(alloc, opened_text(message))?,
             };
-            let answer = kept(session, checker, alloc, document)?;
+            let answer = keep_document(session, checker, alloc, document)?;
             Ok(answer)
         }
     }
@@ -116,7 +116,7 @@ fn changed_in(alloc: Global, message: &Value, document: &Document) -> Result<Doc
         uri: String::from_str(alloc, document.uri.as_str())?,
         version: version_in(message),
         python: document.python,
-        text: owned(alloc, text)?,
+        text: copied_text(alloc, text)?,
     })
 }
 
@@ -166,7 +166,7 @@ fn changed<C: Checker>(
         )?;
         return Ok(answer);
     }
-    let answer = kept(
+    let answer = keep_document(
         session,
         checker,
         alloc,
@@ -196,7 +196,7 @@ fn closed(session: &Session, alloc: Global, message: &Value) -> Result<Answer, O
         let answer = told(session, alloc, "didClose names no document")?;
         return Ok(answer);
     };
-    match place_of(&session.documents, uri) {
+    match index_of_document(&session.documents, uri) {
         None => {
             let answer = told(session, alloc, "didClose names a document that is not open")?;
             Ok(answer)

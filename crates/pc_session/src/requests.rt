@@ -5,7 +5,7 @@ ghost use Rattle.serde_json.specs.View.{view};
 ghost use Rattle.pc_documents.specs.Documents.{opened_of};
 ghost use Rattle.pc_session.specs.Answers.{after};
 ghost use Rattle.pc_session.specs.Replies.{refusal_of};
-ghost use Rattle.pc_session.specs.Sessions.{IsAnswered, IsPulled, IsHovered, IsListed, OnRunning, OnFresh, OnRequest};
+ghost use Rattle.pc_session.specs.Sessions.{RepliesAlone, IsPulled, IsHovered, IsSymbolReply, OnRunning, OnFresh, OnRequest};
 ghost use Rattle.pc_session.specs.Sessions.{named_document};
 ghost use Rattle.pc_session.specs.States.{state_of};
 
@@ -28,7 +28,7 @@ pub(crate) fn refused(
     id: &Value,
     code: ErrorCode,
 ) -> Result<Answer, OutOfMemory>
-    ensures { IfOk result (λ a. IsAnswered (refusal_of code (view id.now)) (state_of session.now)
+    ensures { IfOk result (λ a. RepliesAlone (refusal_of code (view id.now)) (state_of session.now)
         (map view a.replies.items) (after a.change (state_of session.now))) }
 {
     let _ = session;
@@ -97,7 +97,7 @@ fn listed(
     id: &Value,
     message: &Value,
 ) -> Result<Value, OutOfMemory>
-    ensures { IfOk result (λ v. IsListed (view message.now) (view id.now) (state_of session.now) (view v)) }
+    ensures { IfOk result (λ v. IsSymbolReply (view message.now) (view id.now) (state_of session.now) (view v)) }
 {
     let Some(document) = named(session, message) else {
         let refused = error_reply(alloc, id, ErrorCode::InvalidParams)?;

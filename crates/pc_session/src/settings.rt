@@ -118,7 +118,7 @@ fn pulls_in(message: &Value) -> bool
 pub(crate) fn settings_in(alloc: Global, message: &Value) -> Result<Settings, AllocError>
     ensures { IfOk result (λ settings. agreed_of settings ≡ agreed_in (view message.now)) }
 {
-    let codes_page = owned(alloc, page_in(message))?;
+    let codes_page = copied_text(alloc, page_in(message))?;
     Ok(Settings {
         encoding: encoding_in(message),
         dynamic_severity: severity_in(message),
@@ -128,7 +128,7 @@ pub(crate) fn settings_in(alloc: Global, message: &Value) -> Result<Settings, Al
 }
 
 /// Copies a text, if there is one.
-pub(crate) fn owned(alloc: Global, text: Option<&str>) -> Result<Option<String>, AllocError>
+pub(crate) fn copied_text(alloc: Global, text: Option<&str>) -> Result<Option<String>, AllocError>
     ensures { IfOk result (λ o. option_map string_bytes o ≡ option_map (λ t. t.now) text.entry) }
 {
     match text {

@@ -87,7 +87,8 @@ fn mended_message(alloc: Global, bytes: &[u8]) -> Result<Option<Value>, OutOfMem
     let mended = mended(alloc, bytes)?;
     match Value::from_slice(alloc, &mended) {
         Ok(message) => Ok(Some(message)),
-        Err(error) if error.is_memory() => Err(OutOfMemory),
+        // The kit's error says that an allocation failed, and does not keep the allocation's own error.
+        Err(error) if error.is_memory() => Err(OutOfMemory::from(AllocError)),
         Err(_) => Ok(None),
     }
 }

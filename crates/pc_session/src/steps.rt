@@ -13,7 +13,7 @@ ghost use Rattle.pc_session.specs.Spelled.{AreSpelled};
 ghost use Rattle.pc_session.specs.States.{state_of};
 
 use crate::messages::{LspMethod, is_identifier, is_reply, method_in};
-use crate::notifications::{kept, nothing, notified};
+use crate::notifications::{keep_document, nothing, notified};
 use crate::replies::{ErrorCode, error_reply, log, publish};
 use crate::requests::{refused, request};
 use crate::session::{Answer, Session, SessionChange};
@@ -22,7 +22,7 @@ use pc_documents::{Checker, Document, is_sent, unknown_values};
 use pc_source::OutOfMemory;
 use pc_wire::framed;
 use serde_json::Value;
-use std::alloc::Global;
+use std::alloc::{AllocError, Global};
 
 /// Adds the publication that says that the text of a document is not known.
 fn add_unknown(
@@ -183,7 +183,7 @@ fn unread<C: Checker>(
             Ok(answer)
         }
         Some(document) => {
-            let answer = kept(session, checker, alloc, document)?;
+            let answer = keep_document(session, checker, alloc, document)?;
             Ok(answer)
         }
     }
@@ -204,7 +204,8 @@ fn read<C: Checker>(
             let answer = answered(session, checker, alloc, &value)?;
             Ok(answer)
         }
-        Err(error) if error.is_memory() => Err(OutOfMemory),
+        // The kit's error says that an allocation failed, and does not keep the allocation's own error.
+        Err(error) if error.is_memory() => Err(OutOfMemory::from(AllocError)),
         Err(_) => {
             let answer = unread(session, checker, alloc, message)?;
             Ok(answer)

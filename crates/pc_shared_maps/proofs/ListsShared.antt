@@ -9,7 +9,7 @@ use Rattle.pc_scope.specs.Resolution.{index_of}
 use Rattle.pc_shared_maps.specs.declared.lists.ListPlace.{ListPlace}
 use Rattle.pc_shared_maps.specs.declared.lists.SharedList.{SharedList}
 use Rattle.pc_shared_maps.specs.declared.lists.SharedLists.{SharedLists}
-use Rattle.pc_shared_maps.specs.SharedLists.{at_number, IsNumberIn, seat_at, HasRoom, KeepsLists}
+use Rattle.pc_shared_maps.specs.SharedLists.{at_number, IsNumberIn, list_place_at, HasRoom, KeepsLists}
 use Rattle.pc_shared_maps.specs.NameMaps.{NameMaps, IsMap, named_at, KeepsNamed}
 use Rattle.pc_shared_maps.specs.SharedMaps.{held_at, KeepsMaps}
 
@@ -107,7 +107,7 @@ module _ (s t : SharedLists) (named : KeepsNamed s.named t.named) (placed : Keep
           (within_left s.seats.items (seat ∷ []) (held_at s.placed l.seats place) (r.numbered place)));
     }
 
-    seat_kept : (place : ℕ) → seat_at t l place ≡ seat_at s l place
+    seat_kept : (place : ℕ) → list_place_at t l place ≡ list_place_at s l place
     seat_kept place = ap (at_number t.seats.items) (held_kept place)
         ∙ ap (λ (xs : List ListPlace). at_number xs (held_at s.placed l.seats place)) seats
         ∙ at_left s.seats.items (seat ∷ []) (held_at s.placed l.seats place) (r.numbered place)
@@ -144,11 +144,11 @@ module _ (s t : SharedLists) (named : KeepsNamed s.named t.named) (placed : Keep
 
     seat_end : (k : ℕ) (b : Bool) → at_number (s.seats.items ++ seat ∷ [])
         (if b then Some (length s.seats.items) else held_at s.placed l.seats k)
-        ≡ (if b then Some seat else seat_at s l k)
+        ≡ (if b then Some seat else list_place_at s l k)
     seat_end k true = get_end s.seats.items seat
     seat_end k false = at_left s.seats.items (seat ∷ []) (held_at s.placed l.seats k) (r.numbered k)
 
-    pub seat_more : (k : ℕ) → seat_at t m k ≡ (if k == l.count then Some seat else seat_at s l k)
+    pub seat_more : (k : ℕ) → list_place_at t m k ≡ (if k == l.count then Some seat else list_place_at s l k)
     seat_more k = ap (at_number t.seats.items) (put k)
         ∙ ap (λ (xs : List ListPlace). at_number xs (if k == l.count then Some (length s.seats.items)
         else held_at s.placed l.seats k)) seats

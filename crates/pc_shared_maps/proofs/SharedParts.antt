@@ -7,7 +7,7 @@ use Rattle.std.proofs.lemmas.List.{get_or_append_left, get_or_default}
 use Rattle.std.proofs.Math.Seq.{get_or-append_seam}
 use Rattle.std.proofs.lemmas.Bool.Decides.{nat_tests}
 use Rattle.pc_shared_maps.specs.declared.shared.MapNode.{MapNode}
-use Rattle.pc_shared_maps.specs.SharedMaps.{empty_node, node_at, way_in, way, next, held_along, held_at, IsWithin, IsClosed}
+use Rattle.pc_shared_maps.specs.SharedMaps.{empty_node, node_at, way_in, way, next, held_along, held_at, HasSuccessorsIn, HasAllSuccessors}
 use Rattle.pc_shared_maps.specs.SharedMaps.{KeepsMaps, HasBelow}
 
 -- ---- ways
@@ -59,7 +59,7 @@ nothing_held key = nothing_along (way key)
 
 -- ---- a part more
 
-module _ (nodes : List MapNode) (closed : IsClosed nodes) where
+module _ (nodes : List MapNode) (closed : HasAllSuccessors nodes) where
   pub node_kept : (more : List MapNode) (i : ℕ) → i < length nodes → node_at (nodes ++ more) i ≡ node_at nodes i
   node_kept more i h = get_or_append_left nodes more empty_node i h
 
@@ -79,7 +79,7 @@ module _ (nodes : List MapNode) (closed : IsClosed nodes) where
   held_kept more map key h = along_kept more (way key) map h
 
   -- what is at a new part
-  module _ (node : MapNode) (within : IsWithin nodes node) where
+  module _ (node : MapNode) (within : HasSuccessorsIn nodes node) where
     new_node : node_at (nodes ++ node ∷ []) (length nodes) ≡ node
     new_node = get_or-append_seam nodes node [] empty_node
 
@@ -96,21 +96,21 @@ module _ (nodes : List MapNode) (closed : IsClosed nodes) where
         ∙ ap (λ (n : MapNode). held_at (nodes ++ node ∷ []) (next (key % 2 == 1) n) ((key - 1) / 2)) new_node
         ∙ held_kept (node ∷ []) (next (key % 2 == 1) node) ((key - 1) / 2) (next_new (key % 2 == 1))
 
-    within_more : (n : MapNode) → IsWithin nodes n → IsWithin (nodes ++ node ∷ []) n
+    within_more : (n : MapNode) → HasSuccessorsIn nodes n → HasSuccessorsIn (nodes ++ node ∷ []) n
     within_more n w = let e = length-append nodes (node ∷ []) in let o = w.odd in let v = w.even in
         record { odd = omega arith; even = omega arith }
 
-    pub closed_more : IsClosed (nodes ++ node ∷ [])
+    pub closed_more : HasAllSuccessors (nodes ++ node ∷ [])
     closed_more i h = go (i_cases i h)
       where
         i_cases : (i : ℕ) → i < length (nodes ++ node ∷ []) → (i < length nodes) ⊎ (i ≡ length nodes)
         i_cases i h = let e = length-append nodes (node ∷ []) in grind arith
 
-        go : (i < length nodes) ⊎ (i ≡ length nodes) → IsWithin (nodes ++ node ∷ []) (node_at (nodes ++ node ∷ []) i)
-        go (inl l) = subst (IsWithin (nodes ++ node ∷ [])) (sym (node_kept (node ∷ []) i l))
+        go : (i < length nodes) ⊎ (i ≡ length nodes) → HasSuccessorsIn (nodes ++ node ∷ []) (node_at (nodes ++ node ∷ []) i)
+        go (inl l) = subst (HasSuccessorsIn (nodes ++ node ∷ [])) (sym (node_kept (node ∷ []) i l))
             (within_more (node_at nodes i) (closed i l))
-        go (inr e) = subst (λ j. IsWithin (nodes ++ node ∷ []) (node_at (nodes ++ node ∷ []) j)) (sym e)
-            (subst (IsWithin (nodes ++ node ∷ [])) (sym new_node) (within_more node within))
+        go (inr e) = subst (λ j. HasSuccessorsIn (nodes ++ node ∷ []) (node_at (nodes ++ node ∷ []) j)) (sym e)
+            (subst (HasSuccessorsIn (nodes ++ node ∷ [])) (sym new_node) (within_more node within))
 
 -- ---- a value put in
 
@@ -142,8 +142,8 @@ abbrev pub IsPut : List MapNode → (map key value : ℕ) → List MapNode → �
 IsPut old map key value nodes new = (k : ℕ) → held_at nodes new k ≡ (if k == key then Some value else held_at old map k)
 
 -- at the number 0
-pub put_zero : (old : List MapNode) → IsClosed old → (map key value : ℕ) (node : MapNode) → map < length old
-    → node ≡ node_at old map → IsWithin old node → key ≡ 0
+pub put_zero : (old : List MapNode) → HasAllSuccessors old → (map key value : ℕ) (node : MapNode) → map < length old
+    → node ≡ node_at old map → HasSuccessorsIn old node → key ≡ 0
     → (nodes : List MapNode) (new : ℕ) → nodes ≡ old ++ record { held = Some value; odd = node.odd; even = node.even } ∷ []
     → new ≡ length old → IsPut old map key value nodes new
 put_zero old closed map key value node h is within zero_key nodes new e n k =
@@ -153,7 +153,7 @@ put_zero old closed map key value node h is within zero_key nodes new e n k =
     made : MapNode
     made = record { held = Some value; odd = node.odd; even = node.even }
 
-    made_within : IsWithin old made
+    made_within : HasSuccessorsIn old made
     made_within = record { odd = within.odd; even = within.even }
 
     same_next : (b : Bool) → next b made ≡ next b (node_at old map)
@@ -169,11 +169,11 @@ put_zero old closed map key value node h is within zero_key nodes new e n k =
         ∙ sym (ap (λ b. if b then Some value else held_at old map (suc k)) (other_zero (suc k) (omega arith)))
 
 -- after it, where the part of the number's kind was made anew
-put_behind : (old mid : List MapNode) → IsClosed old → IsClosed mid → KeepsMaps old mid
+put_behind : (old mid : List MapNode) → HasAllSuccessors old → HasAllSuccessors mid → KeepsMaps old mid
     → (map key value part : ℕ) (node : MapNode) → map < length old → 0 < key
     → IsPut old (next (key % 2 == 1) (node_at old map)) ((key - 1) / 2) value mid part
     → node.held ≡ (node_at old map).held → next (key % 2 == 1) node ≡ part
-    → ((b : Bool) → (b ≡ (key % 2 == 1) → ⊥) → next b node ≡ next b (node_at old map)) → IsWithin mid node
+    → ((b : Bool) → (b ≡ (key % 2 == 1) → ⊥) → next b node ≡ next b (node_at old map)) → HasSuccessorsIn mid node
     → IsPut old map key value (mid ++ node ∷ []) (length mid)
 put_behind old mid closed closed' keeps map key value part node h pos is held this other within zero =
     new_first mid closed' node within ∙ held ∙ sym (held_first old map)
@@ -211,10 +211,10 @@ put_behind old mid closed closed' keeps map key value part node h pos is held th
     go false true e f = differ (λ x. false≢true (sym e ∙ x ∙ f)) (λ x. false≢true (sym e ∙ ap (λ i. i == 1) x ∙ f))
 
 -- so where the number is of the one kind, or of the other
-pub put_odd : (old mid : List MapNode) → IsClosed old → IsClosed mid → KeepsMaps old mid
+pub put_odd : (old mid : List MapNode) → HasAllSuccessors old → HasAllSuccessors mid → KeepsMaps old mid
     → (map key value part : ℕ) (node : MapNode) → map < length old → 0 < key → (key % 2 == 1) ≡ true
     → node ≡ node_at old map → IsPut old node.odd ((key - 1) / 2) value mid part
-    → IsWithin mid (record { held = node.held; odd = part; even = node.even })
+    → HasSuccessorsIn mid (record { held = node.held; odd = part; even = node.even })
     → (nodes : List MapNode) (new : ℕ) → nodes ≡ mid ++ record { held = node.held; odd = part; even = node.even } ∷ []
     → new ≡ length mid → IsPut old map key value nodes new
 put_odd old mid closed closed' keeps map key value part node h pos kind is put within nodes new e n k =
@@ -231,10 +231,10 @@ put_odd old mid closed closed' keeps map key value part node h pos kind is put w
     same_other true d = absurd (d refl)
     same_other false d = ap (λ (x : MapNode). x.even) is
 
-pub put_even : (old mid : List MapNode) → IsClosed old → IsClosed mid → KeepsMaps old mid
+pub put_even : (old mid : List MapNode) → HasAllSuccessors old → HasAllSuccessors mid → KeepsMaps old mid
     → (map key value part : ℕ) (node : MapNode) → map < length old → 0 < key → (key % 2 == 1) ≡ false
     → node ≡ node_at old map → IsPut old node.even ((key - 1) / 2) value mid part
-    → IsWithin mid (record { held = node.held; odd = node.odd; even = part })
+    → HasSuccessorsIn mid (record { held = node.held; odd = node.odd; even = part })
     → (nodes : List MapNode) (new : ℕ) → nodes ≡ mid ++ record { held = node.held; odd = node.odd; even = part } ∷ []
     → new ≡ length mid → IsPut old map key value nodes new
 put_even old mid closed closed' keeps map key value part node h pos kind is put within nodes new e n k =
@@ -273,7 +273,7 @@ ends_at nodes at zero node o h is held = ap (λ (x : MapNode). x.held) is ∙ sy
 ends_at nodes at (suc rest) node o h is held = absurd (omega arith)
 
 -- a part more keeps each map
-pub more_keeps : (nodes : List MapNode) → IsClosed nodes → (node : MapNode) (new : List MapNode) → new ≡ nodes ++ node ∷ []
+pub more_keeps : (nodes : List MapNode) → HasAllSuccessors nodes → (node : MapNode) (new : List MapNode) → new ≡ nodes ++ node ∷ []
     → KeepsMaps nodes new
 more_keeps nodes closed node new e = subst (KeepsMaps nodes) (sym e) (record {
   more = let l = length-append nodes (node ∷ []) in omega arith;
@@ -301,7 +301,7 @@ apart : (k key limit : ℕ) → key < limit → limit ≤ k → (k == key) ≡ f
 apart k key limit h g = grind (arith, nat_tests)
 
 -- a map that is put in after the others
-pub put_below : (old mid nodes : List MapNode) → IsClosed mid → (map key value new limit : ℕ) (node : MapNode)
+pub put_below : (old mid nodes : List MapNode) → HasAllSuccessors mid → (map key value new limit : ℕ) (node : MapNode)
     → nodes ≡ mid ++ node ∷ [] → new ≡ length mid → IsPut old map key value nodes new → map < length old → key < limit
     → HasBelow limit old → HasBelow limit mid → HasBelow limit nodes
 put_below old mid nodes closed map key value new limit node e n put h less below below' =

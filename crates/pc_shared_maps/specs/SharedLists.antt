@@ -27,8 +27,8 @@ abbrev pub place_at : SharedLists → SharedList → List ℕ → Option ℕ
 place_at s l name = named_at s.named l.names name
 
 -- the seat at a place of a list
-abbrev pub seat_at : SharedLists → SharedList → ℕ → Option ListPlace
-seat_at s l place = at_number s.seats.items (held_at s.placed l.seats place)
+abbrev pub list_place_at : SharedLists → SharedList → ℕ → Option ListPlace
+list_place_at s l place = at_number s.seats.items (held_at s.placed l.seats place)
 
 -- the end of the needed items before a seat, or in the whole list if there is no seat
 abbrev pub needed_or : ℕ → Option ListPlace → ℕ
@@ -37,7 +37,7 @@ needed_or n (Some seat) = seat.needed
 
 -- the end of the needed items before a place of a list
 abbrev pub needed_at : SharedLists → SharedList → ℕ → ℕ
-needed_at s l place = needed_or l.needed (seat_at s l place)
+needed_at s l place = needed_or l.needed (list_place_at s l place)
 
 -- the maps of a list exist, and there are seats for all its places
 pub record HasRoom (s : SharedLists) (l : SharedList) : Type 0 where
@@ -54,4 +54,4 @@ AreNamed s l names = (word : List ℕ) → place_at s l word ≡ index_of word n
 pub record KeepsLists (old new : SharedLists) : Type 0 where
   pub room : (l : SharedList) → HasRoom old l → HasRoom new l
   pub names : (l : SharedList) (word : List ℕ) → HasRoom old l → place_at new l word ≡ place_at old l word
-  pub seats : (l : SharedList) (place : ℕ) → HasRoom old l → seat_at new l place ≡ seat_at old l place
+  pub seats : (l : SharedList) (place : ℕ) → HasRoom old l → list_place_at new l place ≡ list_place_at old l place

@@ -37,13 +37,13 @@ unfoldable pub held_at : List MapNode → ℕ → ℕ → Option ℕ
 held_at nodes map key = held_along nodes map (way key)
 
 -- the successors of a node are among these nodes
-pub record IsWithin (nodes : List MapNode) (node : MapNode) : Type 0 where
+pub record HasSuccessorsIn (nodes : List MapNode) (node : MapNode) : Type 0 where
   pub odd : node.odd < length nodes
   pub even : node.even < length nodes
 
 -- the successors of each node are among the nodes
-abbrev pub IsClosed : List MapNode → Type 0
-IsClosed nodes = (i : ℕ) → i < length nodes → IsWithin nodes (node_at nodes i)
+abbrev pub HasAllSuccessors : List MapNode → Type 0
+HasAllSuccessors nodes = (i : ℕ) → i < length nodes → HasSuccessorsIn nodes (node_at nodes i)
 
 -- each map is kept
 pub record KeepsMaps (old new : List MapNode) : Type 0 where

@@ -5,7 +5,7 @@ ghost use Rattle.std.specs.Prelude.{OnOk};
 ghost use Rattle.pc_scope.specs.Resolution.{index_of};
 ghost use Rattle.pc_shared_maps.specs.declared.lists.ListPlace.{ListPlace as SeatOf};
 ghost use Rattle.pc_shared_maps.specs.NameMaps.{IsMap, named_at, KeepsNamed};
-ghost use Rattle.pc_shared_maps.specs.SharedLists.{empty_list, place_at, seat_at, needed_at, HasRoom, AreNamed, KeepsLists};
+ghost use Rattle.pc_shared_maps.specs.SharedLists.{empty_list, place_at, list_place_at, needed_at, HasRoom, AreNamed, KeepsLists};
 
 use crate::named::NamedMaps;
 use crate::shared::SharedMaps;
@@ -79,7 +79,7 @@ impl SharedLists {
     pub fn new(alloc: Global, keys: Keys) -> Result<SharedLists, OutOfMemory>
         ensures room { IfOk result (λ s. HasRoom s empty_list) }
         ensures names { IfOk result (λ s. AreNamed s empty_list []) }
-        ensures seats { IfOk result (λ s. (place : ℕ) → seat_at s empty_list place ≡ None) }
+        ensures seats { IfOk result (λ s. (place : ℕ) → list_place_at s empty_list place ≡ None) }
     {
         let named = NamedMaps::new(alloc, keys)?;
         let placed = SharedMaps::new(alloc)?;
@@ -107,9 +107,9 @@ impl SharedLists {
         ensures needed { IfOk result (λ new. new.needed ≡ (if needed then list.count + 1 else list.needed)) }
         ensures names { IfOk result (λ new. (names : List (List ℕ)) → AreNamed self.old list names
             → list.count ≡ length names → AreNamed self.new new (names ++ name.now ∷ [])) }
-        ensures seats { IfOk result (λ new. (place : ℕ) → seat_at self.new new place
+        ensures seats { IfOk result (λ new. (place : ℕ) → list_place_at self.new new place
             ≡ (if place == list.count then Some (let s : SeatOf = record { number = number; needed = list.needed } in s)
-            else seat_at self.old list place)) }
+            else list_place_at self.old list place)) }
     {
         let names = add_name(&mut self.named, alloc, list.names, name, list.count)?;
         let seats = self.placed.put(list.seats, list.count, self.seats.len())?;
@@ -138,7 +138,7 @@ impl SharedLists {
     /// Returns the seat at a place of a list.
     pub fn seat(&self, list: SharedList, place: usize) -> Option<ListPlace>
         requires { HasRoom self.now list }
-        ensures { result ≡ seat_at self.now list place }
+        ensures { result ≡ list_place_at self.now list place }
     {
         let number = self.placed.get(list.seats, place)?;
         self.seats.get(number).copied()

@@ -3,7 +3,7 @@
 ghost use Rattle.std.specs.Prelude.{◌≡◌, ◌++◌, ◌∷◌, [], OnOk, OnErr, ◌<◌, ◌≤◌, ℕ, List, length, if◌then◌else◌, ◌==◌};
 ghost use Rattle.std.specs.Prelude.{Some, None, IfOk};
 ghost use Rattle.pc_shared_maps.specs.declared.shared.MapNode.{MapNode as NodeOf};
-ghost use Rattle.pc_shared_maps.specs.SharedMaps.{held_at, node_at, IsWithin, IsClosed, KeepsMaps, HasBelow};
+ghost use Rattle.pc_shared_maps.specs.SharedMaps.{held_at, node_at, HasSuccessorsIn, HasAllSuccessors, KeepsMaps, HasBelow};
 
 use pc_source::OutOfMemory;
 use std::alloc::Global;
@@ -29,7 +29,7 @@ impl Model for SharedMaps {
 
     ghost view = { λ s. s.nodes.items };
 
-    ghost invariant = { λ s. IsClosed s.nodes.items };
+    ghost invariant = { λ s. HasAllSuccessors s.nodes.items };
 }
 
 impl SharedMaps {
@@ -52,18 +52,18 @@ impl SharedMaps {
     fn node(&self, at: usize) -> MapNode
         requires { at < length self.now }
         ensures value { result ≡ node_at self.now at }
-        ensures within { IsWithin self.now result }
-        ensures closed { IsClosed self.now }
+        ensures within { HasSuccessorsIn self.now result }
+        ensures closed { HasAllSuccessors self.now }
     {
         self.nodes[at]
     }
 
     /// Adds a node, whose successors must exist already, and returns its number.
     fn add(&mut self, node: MapNode) -> Result<usize, OutOfMemory>
-        requires { IsWithin self.old node }
+        requires { HasSuccessorsIn self.old node }
         ensures added { OnOk result (self.new ≡ self.old ++ node ∷ []) }
         ensures place { IfOk result (λ at. at ≡ length self.old) }
-        ensures closed { IsClosed self.old }
+        ensures closed { HasAllSuccessors self.old }
         ensures kept { KeepsMaps self.old self.new }
         ensures unchanged { OnErr result (self.new ≡ self.old) }
     {

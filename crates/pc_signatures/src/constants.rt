@@ -20,7 +20,7 @@ ghost use Rattle.pc_rules.specs.Computed.Findings.{name_after};
 ghost use Rattle.pc_callables.specs.SignaturesRead.{AreGlobals};
 ghost use Rattle.pc_signatures.specs.Internal.ItemsRead.{HasReached, methods_with, reached_with};
 ghost use Rattle.pc_rules.specs.Computed.Standing.{HasIfAny, label_in, finds_in};
-ghost use Rattle.pc_rules.specs.Computed.Checkers.{Finds, CheckerKept, IsLabel};
+ghost use Rattle.pc_rules.specs.Computed.Checkers.{AddsNotes, CheckerKept, IsLabel};
 
 use indexmap::IndexSet;
 use pc_callables::{
@@ -59,7 +59,7 @@ fn type_initializer<S: TypeStore>(
         (λ l. IsLabel S.TypeStore checker.new l
         (label_in (initial (module_in globals.now.outline.now) false (map S.tree read.now.constants.items)
         (length read.now.methods.items)) (option_map S.tree want.now) (expr_of value.now))) }
-    ensures found { OnOk result (Finds checker.old checker.new
+    ensures found { OnOk result (AddsNotes checker.old checker.new
         (finds_in (initial (module_in globals.now.outline.now) globals.now.keeps (map S.tree read.now.constants.items)
         (length read.now.methods.items)) (option_map S.tree want.now) (expr_of value.now))) }
     ensures goes_on { CheckerKept S.TypeStore checker.old checker.new }
@@ -100,7 +100,7 @@ fn check_annotated<S: TypeStore>(
     requires globals { AreGlobals S.has S.tree checker.old.store.now globals.now }
     requires constants { All (S.has checker.old.store.now) read.now.constants.items }
     requires ty { S.has checker.old.store.now ty.now }
-    ensures found { OnOk result (Finds checker.old checker.new
+    ensures found { OnOk result (AddsNotes checker.old checker.new
         (value_findings (module_in globals.now.outline.now) globals.now.keeps (reached_with S.tree read.now)
         (if binds then S.tree ty.now ∷ [] else []) (expr_of value.now))) }
     ensures goes_on { CheckerKept S.TypeStore checker.old checker.new }
@@ -129,7 +129,7 @@ fn read_constant<S: TypeStore>(
         (λ t. Means S.has S.tree checker.new.store.now t
         (type_of_constant (module_in globals.now.outline.now) (reached_with S.tree read.now)
         (constant_of constant.now))) }
-    ensures found { OnOk result (Finds checker.old checker.new
+    ensures found { OnOk result (AddsNotes checker.old checker.new
         (constant_findings (module_in globals.now.outline.now) globals.now.keeps (reached_with S.tree read.now)
         (constant_of constant.now))) }
     ensures goes_on { CheckerKept S.TypeStore checker.old checker.new }
@@ -166,7 +166,7 @@ fn add_constant<S: TypeStore>(
         → OnOk result (reached_with S.tree read.new
         ≡ behind (module_in globals.now.outline.now) (reached_with S.tree read.old)
         (constant_item p (constant_of constant.now))) }
-    ensures found { OnOk result (Finds checker.old checker.new
+    ensures found { OnOk result (AddsNotes checker.old checker.new
         (name_after globals.now.keeps
         (constant_findings (module_in globals.now.outline.now) globals.now.keeps (reached_with S.tree read.old)
         (constant_of constant.now)) constant.now.name.place
@@ -210,7 +210,7 @@ fn add_class<S: TypeStore>(
         → OnOk result (reached_with S.tree read.new
         ≡ behind (module_in globals.now.outline.now) (reached_with S.tree read.old)
         (class_item p (class_of class.now))) }
-    ensures found { OnOk result (Finds checker.old checker.new
+    ensures found { OnOk result (AddsNotes checker.old checker.new
         (class_notes (module_in globals.now.outline.now) (length read.old.methods.items) (class_of class.now))) }
     ensures goes_on { CheckerKept S.TypeStore checker.old checker.new }
 {
@@ -242,7 +242,7 @@ fn add_item<S: TypeStore>(
     ensures reached { OnOk result
         (reached_with S.tree read.new
         ≡ behind (module_in globals.now.outline.now) (reached_with S.tree read.old) (item_of item.now)) }
-    ensures found { OnOk result (Finds checker.old checker.new
+    ensures found { OnOk result (AddsNotes checker.old checker.new
         (item_findings (module_in globals.now.outline.now) globals.now.keeps (reached_with S.tree read.old)
         (item_of item.now))) }
     ensures goes_on { CheckerKept S.TypeStore checker.old checker.new }
@@ -267,7 +267,7 @@ pub(crate) fn read_items<S: TypeStore>(
         (λ w. map S.tree w.constants.items ≡ constants_of (module_in globals.now.outline.now)) }
     ensures methods { IfOk result
         (λ w. map (methods_with S.tree) w.methods.items ≡ method_signatures (module_in globals.now.outline.now)) }
-    ensures found { OnOk result (Finds checker.old checker.new
+    ensures found { OnOk result (AddsNotes checker.old checker.new
         (items_findings (module_in globals.now.outline.now) globals.now.keeps nothing_reached
         (module_in globals.now.outline.now).items)) }
     ensures goes_on { CheckerKept S.TypeStore checker.old checker.new }

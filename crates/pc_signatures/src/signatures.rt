@@ -11,7 +11,7 @@ ghost use Rattle.pc_rules.specs.Computed.Signatures.{constants_of, method_signat
 ghost use Rattle.pc_signatures.specs.SignaturesHeld.{HeldSignatures, methods_seen, method_numbered, HasSigned};
 ghost use Rattle.pc_signatures.specs.SignaturesHeld.{all_signatures_with};
 ghost use Rattle.pc_rules.specs.Computed.Standing.{signature_with};
-ghost use Rattle.pc_rules.specs.Computed.Checkers.{Finds, CheckerKept};
+ghost use Rattle.pc_rules.specs.Computed.Checkers.{AddsNotes, CheckerKept};
 
 use crate::constants::read_items;
 use pc_annotations::ModuleOutline;
@@ -99,7 +99,7 @@ pub fn read_signatures<S: TypeStore>(
         (λ s. map (signature_with S.tree) s.functions ≡ signatures_of (module_in outline.now)) }
     ensures methods { IfOk result (λ s. all_signatures_with S.tree s.methods ≡ method_signatures
         (module_in outline.now)) }
-    ensures found { OnOk result (Finds checker.old checker.new
+    ensures found { OnOk result (AddsNotes checker.old checker.new
         (signatures_find (module_in outline.now) keeps)) }
     ensures goes_on { CheckerKept S.TypeStore checker.old checker.new }
 {

@@ -20,7 +20,7 @@ use Rattle.pc_sound.specs.Values.{HeapTyping, Recorded, a_list, a_dict, a_class}
 use Rattle.pc_sound.specs.Typed.{has_type, is_well, suits}
 
 -- a value and the type that it must have
-pub record Demand : Type 0 where
+pub record ValueDemand : Type 0 where
   pub type : Tree
   pub value : Value
 
@@ -79,17 +79,17 @@ abbrev mutual
   walk_parts heap ts vs records = records
 
 -- the records after walking each demand
-abbrev pub walk_demands : Heap → List Demand → Records → Records
+abbrev pub walk_demands : Heap → List ValueDemand → Records → Records
 walk_demands heap [] records = records
 walk_demands heap (d ∷ ds) records = walk_demands heap ds (walk heap d.type d.value records)
 
 -- the demands of an instance's fields
-abbrev pub field_demands : List TypedParameter → List Slot → List Demand
+abbrev pub field_demands : List TypedParameter → List Slot → List ValueDemand
 field_demands (f ∷ fs) (s ∷ ss) = record { type = f.type; value = s.value } ∷ field_demands fs ss
 field_demands fs ss = []
 
 -- the demands of the fields of each instance of a heap
-abbrev pub instance_demands : List facts.ClassFacts → List Cell → List Demand
+abbrev pub instance_demands : List facts.ClassFacts → List Cell → List ValueDemand
 instance_demands classes [] = []
 instance_demands classes (instance_cell c slots ∷ cells) = field_demands (class_facts_at classes c).fields slots
     ++ instance_demands classes cells
@@ -116,50 +116,50 @@ closed records cells = []
 -- ---- demands
 
 -- the demand of the value bound to a name
-abbrev pub bound_demand : Tree → Option GlobalBinding → List Demand
+abbrev pub bound_demand : Tree → Option GlobalBinding → List ValueDemand
 bound_demand t (Some (a_value v)) = record { type = t; value = v } ∷ []
 bound_demand t binding = []
 
 -- the demands of the constants of a module, given their types
-abbrev pub constant_demands : List Constant → List Tree → Globals → List Demand
+abbrev pub constant_demands : List Constant → List Tree → Globals → List ValueDemand
 constant_demands (c ∷ cs) (t ∷ ts) globals = bound_demand t (global_by_name c.name.text globals)
     ++ constant_demands cs ts globals
 constant_demands cs ts globals = []
 
 -- the demand of an argument by name, if there is one
-abbrev pub named_demand : Tree → Option Value → List Demand
+abbrev pub named_demand : Tree → Option Value → List ValueDemand
 named_demand t (Some v) = record { type = t; value = v } ∷ []
 named_demand t None = []
 
 -- the demands of the arguments of a call, given its parameters
-abbrev pub argument_demands : List TypedParameter → List Value → List NamedValue → List Demand
+abbrev pub argument_demands : List TypedParameter → List Value → List NamedValue → List ValueDemand
 argument_demands [] vs named = []
 argument_demands (p ∷ ps) (v ∷ vs) named = record { type = p.type; value = v } ∷ argument_demands ps vs named
 argument_demands (p ∷ ps) [] named = named_demand p.type (value_named p.name named) ++ argument_demands ps [] named
 
 -- whether each demand is met under a heap typing
-abbrev pub are_met : Bases → HeapTyping → List Demand → Test
+abbrev pub are_met : Bases → HeapTyping → List ValueDemand → Test
 are_met bases k [] = true
 are_met bases k (d ∷ ds) = has_type bases k d.type d.value && are_met bases k ds
 
 -- ---- the check
 
 -- the heap typing found by a walk over the demands and then over the fields of all instances
-abbrev pub typing_found : List facts.ClassFacts → Heap → List Demand → HeapTyping
+abbrev pub typing_found : List facts.ClassFacts → Heap → List ValueDemand → HeapTyping
 typing_found classes heap demands = closed (walk_demands heap (demands ++ instance_demands classes heap)
     (first_records heap)) heap
 
 -- the heap typing, if under it the heap is well typed, the demands are met and the arguments match the parameters
-abbrev pub checked : Module → HeapTyping → Heap → List Demand → List TypedParameter → List Value → List NamedValue
+abbrev pub passing_typing : Module → HeapTyping → Heap → List ValueDemand → List TypedParameter → List Value → List NamedValue
     → Option HeapTyping
-checked m k heap demands params values named = if is_well (bases_of m) (classes_of m) k heap
+passing_typing m k heap demands params values named = if is_well (bases_of m) (classes_of m) k heap
     && (are_met (bases_of m) k demands && suits (bases_of m) k params values named) then Some k else None
 
 -- the heap typing of a call that fits: under it the constants of the module, the object whose method is called, and the
 -- arguments are of their types, with one type for each location
-abbrev pub fits : (m : Module) (types : List Tree) → State → (objects : List Demand) → List TypedParameter → List Value
+abbrev pub fitting_typing : (m : Module) (types : List Tree) → State → (objects : List ValueDemand) → List TypedParameter → List Value
     → List NamedValue → Option HeapTyping
-fits m types s objects params values named =
-    checked m (typing_found (classes_of m) s.heap (constant_demands (constants_in m.items) types s.globals ++ (objects
+fitting_typing m types s objects params values named =
+    passing_typing m (typing_found (classes_of m) s.heap (constant_demands (constants_in m.items) types s.globals ++ (objects
     ++ argument_demands params values named))) s.heap
     (constant_demands (constants_in m.items) types s.globals ++ objects) params values named

@@ -13,7 +13,7 @@ use Rattle.pc_class.specs.Facts.{parameters_of}
 use Rattle.pc_value.specs.Value.{Value, whole, string, location, list_cell, Heap}
 use Rattle.pc_machine.specs.State.{State, Function, a_function}
 use Rattle.pc_sound.specs.Values.{HeapTyping, a_list}
-use Rattle.pc_sound.specs.Border.{fits}
+use Rattle.pc_sound.specs.Border.{fitting_typing}
 use Rattle.pc_sound.specs.Examples.{at, word}
 
 -- `int | None`
@@ -86,7 +86,7 @@ two_lists = list_cell (whole (pos 1) ∷ []) ∷ list_cell (whole (pos 1) ∷ []
 
 -- the answer of the border to a call of `f` with these two values
 abbrev pub says : (first second : Value) → Option HeapTyping
-says first second = fits program [] (record loaded { heap = two_lists }) [] (parameters_of program f.params) (first ∷ second ∷ []) []
+says first second = fitting_typing program [] (record loaded { heap = two_lists }) [] (parameters_of program f.params) (first ∷ second ∷ []) []
 
 -- the first list of `int`, the second of `int | None`
 abbrev pub one_each : HeapTyping

@@ -15,18 +15,18 @@ use Rattle.pc_machine.specs.Evaluation.{call_callee}
 use Rattle.pc_machine.specs.Runs.{free_parts}
 use Rattle.pc_sound.specs.Values.{HeapTyping, HasType}
 use Rattle.pc_sound.specs.Arguments.{Suits}
-use Rattle.pc_sound.specs.Border.{Demand, fits}
+use Rattle.pc_sound.specs.Border.{ValueDemand, fitting_typing}
 use Rattle.pc_sound.specs.OutsideCalls.{IsReady, IsEntrance, EndsAsPromised}
 use Rattle.pc_sound.specs.Silent.{HasNoSilentError}
 use Rattle.pc_sound.specs.Sound.{HasEvaluatedListed}
 
 -- each demand is met: its value is of its type
-abbrev pub AreMet : Bases → HeapTyping → List Demand → Type 0
+abbrev pub AreMet : Bases → HeapTyping → List ValueDemand → Type 0
 AreMet bases k [] = Unit {0}
 AreMet bases k (d ∷ ds) = HasType bases k d.type d.value × AreMet bases k ds
 
 -- the module can be called, the objects are of their classes, and the arguments match the parameters
-pub record IsFitting (m : Module) (labels : Labelling m) (k : HeapTyping) (s : State) (objects : List Demand)
+pub record IsFitting (m : Module) (labels : Labelling m) (k : HeapTyping) (s : State) (objects : List ValueDemand)
     (params : List TypedParameter) (values : List Value) (named : List NamedValue) : Type 0 where
   pub ready : IsReady m labels k s
   pub met : AreMet (bases_of m) k objects
@@ -36,16 +36,16 @@ pub record IsFitting (m : Module) (labels : Labelling m) (k : HeapTyping) (s : S
 -- conditions under the heap typing found
 abbrev pub FittingIsRight : Type 0
 FittingIsRight = (m : Module) (labels : Labelling m) (k : HeapTyping) (s : State) → IsReady m labels k s → (heap : Heap)
-    (objects : List Demand) (params : List TypedParameter) (values : List Value) (named : List NamedValue)
-    (found : HeapTyping) → fits m (constant_types m m.items labels) (record s { heap = heap }) objects params values
+    (objects : List ValueDemand) (params : List TypedParameter) (values : List Value) (named : List NamedValue)
+    (found : HeapTyping) → fitting_typing m (constant_types m m.items labels) (record s { heap = heap }) objects params values
     named ≡ Some found → IsFitting m labels found (record s { heap = heap }) objects params values named
 
 -- if no finding of a module is silent, a call that fits has evaluated a listed place or ends as promised
 abbrev pub FittingCallsAreSound : Type 0
 FittingCallsAreSound = (m : Module) → HasNoSilentError m → (labels : Labelling m) → IsLawful m labels → (k : HeapTyping)
-    (s : State) → IsReady m labels k s → (heap : Heap) (objects : List Demand) (params : List TypedParameter)
+    (s : State) → IsReady m labels k s → (heap : Heap) (objects : List ValueDemand) (params : List TypedParameter)
     (values : List Value) (named : List NamedValue) (found : HeapTyping)
-    → fits m (constant_types m m.items labels) (record s { heap = heap }) objects params values named ≡ Some found
+    → fitting_typing m (constant_types m m.items labels) (record s { heap = heap }) objects params values named ≡ Some found
     → (callee : Callee) (gives : Tree) → IsEntrance m found (record s { heap = heap }) callee params gives
     → (n : ℕ) (events : List Place) (out : Out Value) (after : State)
     → call_callee Step free (free_parts n) callee values named (record s { heap = heap }) events out after
@@ -61,9 +61,9 @@ pub record GoesOnFrom (m : Module) (labels : Labelling m) (further : State → T
 -- evaluated a listed place, and nothing is said of those after it, or it ends as promised
 abbrev pub FittingCallsGoOn : (m : Module) → Labelling m → ℕ → State → Type 0
 FittingCallsGoOn m labels zero s = Unit {0}
-FittingCallsGoOn m labels (suc left) s = (heap : Heap) (objects : List Demand) (params : List TypedParameter)
+FittingCallsGoOn m labels (suc left) s = (heap : Heap) (objects : List ValueDemand) (params : List TypedParameter)
     (values : List Value) (named : List NamedValue) (found : HeapTyping)
-    → fits m (constant_types m m.items labels) (record s { heap = heap }) objects params values named ≡ Some found
+    → fitting_typing m (constant_types m m.items labels) (record s { heap = heap }) objects params values named ≡ Some found
     → (callee : Callee) (gives : Tree) → IsEntrance m found (record s { heap = heap }) callee params gives
     → (n : ℕ) (events : List Place) (out : Out Value) (after : State)
     → call_callee Step free (free_parts n) callee values named (record s { heap = heap }) events out after

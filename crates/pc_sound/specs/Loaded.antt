@@ -26,16 +26,16 @@ pub record AncestorsAre (bases : Bases) (c : ℕ) (ancestors : List ℕ) : Type 
   pub reached : (e : ℕ) → Below bases (tree.Class c) (tree.Class e) → is_ancestor e ancestors ≡ true
 
 -- a value that is not in the heap, such as that of a literal
-abbrev pub IsPlain : Value → Type 0
-IsPlain (whole n) = Unit {0}
-IsPlain (boolean b) = Unit {0}
-IsPlain (string cs) = Unit {0}
-IsPlain none = Unit {0}
-IsPlain _ = ⊥
+abbrev pub IsOutsideHeap : Value → Type 0
+IsOutsideHeap (whole n) = Unit {0}
+IsOutsideHeap (boolean b) = Unit {0}
+IsOutsideHeap (string cs) = Unit {0}
+IsOutsideHeap none = Unit {0}
+IsOutsideHeap _ = ⊥
 
 -- a default is present exactly if the facts say so, and then it is plain and of its type
 abbrev pub DefaultHas : Bases → HeapTyping → Tree → Test → Option Value → Type 0
-DefaultHas bases k t true (Some v) = IsPlain v × HasType bases k t v
+DefaultHas bases k t true (Some v) = IsOutsideHeap v × HasType bases k t v
 DefaultHas bases k t false None = Unit {0}
 DefaultHas bases k t has v = ⊥
 

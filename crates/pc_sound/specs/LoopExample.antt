@@ -28,8 +28,8 @@ abbrev pub int_or_none : Ann
 int_or_none = union (at 44 54) (more_anns (named (word 44 (codes "int"))) (more_anns (none_type (at 50 54)) no_anns))
 
 -- the body of the loop: `x + 1`, then `x = None`
-abbrev pub turn : Stmts
-turn = more_stmts (evaluates (at 114 115)
+abbrev pub loop_body : Stmts
+loop_body = more_stmts (evaluates (at 114 115)
     (binary (at 114 119) Add (name (word 114 (codes "x"))) (number (at 118 119) (codes "1"))))
     (more_stmts (assigns (at 128 129) (to_name (word 128 (codes "x"))) (nothing (at 132 136))) no_stmts)
 
@@ -42,7 +42,7 @@ f = record {
   body = more_stmts (conditional (at 61 63)
       (more_branches (is_none (at 64 73) (name (word 64 (codes "x"))))
       (more_stmts (returns (at 83 89) None) no_stmts) no_branches) no_stmts)
-      (more_stmts (while_loop (at 94 99) (truth (at 100 104) true) turn) no_stmts);
+      (more_stmts (while_loop (at 94 99) (truth (at 100 104) true) loop_body) no_stmts);
 }
 
 -- `main`, which calls `f` with 1

@@ -15,17 +15,17 @@ use Rattle.pc_machine.specs.Calls.{NamedValue, value_named}
 use Rattle.pc_sound.specs.Values.{HeapTyping, Recorded, a_list, a_dict, a_class}
 
 -- whether two types are the same, with each Any read as object
-abbrev pub is_same_type : Tree → Tree → Test
-is_same_type s t = same_tree (erase s) (erase t)
+abbrev pub is_same_as_tested : Tree → Tree → Test
+is_same_as_tested s t = same_tree (erase s) (erase t)
 
 -- whether a location is recorded as a list of this item type
 abbrev pub is_list_of : Option Recorded → Tree → Test
-is_list_of (Some (a_list item)) t = is_same_type item t
+is_list_of (Some (a_list item)) t = is_same_as_tested item t
 is_list_of r t = false
 
 -- whether a location is recorded as a dict of these key and value types
 abbrev pub is_dict_of : Option Recorded → (key value : Tree) → Test
-is_dict_of (Some (a_dict keys values)) s t = is_same_type keys s && is_same_type values t
+is_dict_of (Some (a_dict keys values)) s t = is_same_as_tested keys s && is_same_as_tested values t
 is_dict_of r s t = false
 
 -- whether a location is recorded as an instance of the class or of a descendant

@@ -1,6 +1,6 @@
 //! Refusals and other faults of a call.
 
-ghost use Rattle.std.specs.Prelude.{◌≡◌, Some};
+ghost use Rattle.std.specs.Prelude.{◌≡◌, Some, IfOk, OnErr};
 ghost use Rattle.pc_source.specs.Refusals.{code_text};
 ghost use Rattle.pc_source.specs.declared.fault.Fault.TheVariants as fault;
 ghost use Rattle.pc_source.specs.declared.fault.OutOfMemory.{OutOfMemory};
@@ -109,10 +109,12 @@ pub struct Refusal {
     pub byte: usize,
 }
 
-/// An allocation failed.
+/// An allocation failed. Other crates get one only from the error of the allocation, or from a fault that has it.
 #[derive(Clone, Copy, Debug, PartialEq, Eq, Error)]
 #[error("out of memory")]
-pub struct OutOfMemory;
+pub struct OutOfMemory {
+    failed: (),
+}
 
 /// Why a call gives no answer: the input is refused, or an allocation failed.
 #[derive(Clone, Copy, Debug, PartialEq, Eq, Error)]
@@ -130,17 +132,32 @@ impl Fault {
     {
         Fault::Refused(Refusal { code, byte })
     }
+
+    /// Returns the refusal.
+    ///
+    /// # Errors
+    ///
+    /// `OutOfMemory` if the fault is that an allocation failed.
+    pub fn refusal(self) -> Result<Refusal, OutOfMemory>
+        ensures refusal { IfOk result (λ refusal. self ≡ fault.Refused refusal) }
+        ensures memory { OnErr result (self ≡ fault.OutOfMemory) }
+    {
+        match self {
+            Fault::Refused(refusal) => Ok(refusal),
+            Fault::OutOfMemory => Err(OutOfMemory { failed: () }),
+        }
+    }
 }
 
 impl From<AllocError> for OutOfMemory {
     fn from(_error: AllocError) -> OutOfMemory {
-        OutOfMemory
+        OutOfMemory { failed: () }
     }
 }
 
 impl<T: Drop> From<AllocFailed<T>> for OutOfMemory {
     fn from(_error: AllocFailed<T>) -> OutOfMemory {
-        OutOfMemory
+        OutOfMemory { failed: () }
     }
 }
 

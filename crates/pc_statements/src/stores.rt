@@ -6,6 +6,7 @@ ghost use Rattle.std.specs.Prelude.{All, map, OnOk};
 ghost use Rattle.pc_tree.specs.Tree.{expr_of, target_of, name_of, to_attribute, to_index};
 ghost use Rattle.pc_flow.specs.WellFormed.{AreWellFormed};
 ghost use Rattle.pc_rules.specs.Operations.{stored_types};
+ghost use Rattle.pc_rules.specs.Computed.ModuleParents.{class_parents};
 ghost use Rattle.pc_statements.specs.Storing.{HasStoreOffer, store_offer_with};
 ghost use Rattle.pc_module_rules.specs.Computed.Statements.{store_finds, stored_finds};
 ghost use Rattle.pc_walk.specs.Walks.{Stands, WalkKept, Found};
@@ -32,7 +33,7 @@ fn find_stored<S: TypeStore>(
 ) -> Result<(), OutOfMemory>
     requires stands { Stands S.TypeStore walk.old env.now }
     requires offers { All (HasStoreOffer (S.has walk.old.store.now)) offers.now }
-    requires well_formed { AreWellFormed walk.old.context.globals.now.outline.now.parents.now
+    requires well_formed { AreWellFormed (class_parents walk.old.context.globals.now)
         (stored_types (map (store_offer_with S.tree) offers.now)) }
     ensures finds { OnOk result (Found S.TypeStore walk.old env.now walk.new
         (λ f k. stored_finds f k (map (store_offer_with S.tree) offers.now) place (expr_of value.now))) }

@@ -5,7 +5,7 @@
 ghost use Rattle.std.specs.Prelude.{IfOk};
 ghost use Rattle.pc_tree.specs.Tree.{expr_of, name_of, target_of, to_name};
 ghost use Rattle.pc_module_rules.specs.Computed.Statements.{assign_target};
-ghost use Rattle.pc_walk.specs.Walks.{Stands, WalkKept, Bound};
+ghost use Rattle.pc_walk.specs.Walks.{Stands, WalkKept, BindsName};
 
 use crate::binding::bind_value;
 use crate::stores::find_store;
@@ -24,7 +24,7 @@ fn assign_name<S: TypeStore>(
     value: &Expr,
 ) -> Result<Env<S::Ty>, OutOfMemory>
     requires { Stands S.TypeStore walk.old env }
-    ensures bound { IfOk result (λ b. Bound S.TypeStore walk.old env walk.new b
+    ensures bound { IfOk result (λ b. BindsName S.TypeStore walk.old env walk.new b
         (λ f t k. assign_target f t k (to_name (name_of name.now)) (expr_of value.now))) }
     ensures goes_on { WalkKept S.TypeStore walk.old walk.new }
 {
@@ -44,7 +44,7 @@ pub fn assign_target<S: TypeStore>(
     value: &Expr,
 ) -> Result<Env<S::Ty>, OutOfMemory>
     requires { Stands S.TypeStore walk.old env }
-    ensures bound { IfOk result (λ b. Bound S.TypeStore walk.old env walk.new b
+    ensures bound { IfOk result (λ b. BindsName S.TypeStore walk.old env walk.new b
         (λ f t k. assign_target f t k (target_of target.now) (expr_of value.now))) }
     ensures goes_on { WalkKept S.TypeStore walk.old walk.new }
 {

@@ -15,7 +15,7 @@ use Rattle.pc_tree.proofs.Stops.{more_at}
 use Rattle.pc_tree.specs.Names.{at_text, first_of, bound_as}
 use Rattle.pc_stopping.specs.declared.holdings.Holdings.{Holdings}
 use Rattle.pc_stopping.specs.Holdings.{HasIn, Keeps}
-use Rattle.pc_stopping.specs.Members.{base_at, names_before, Stands, IsTableOf}
+use Rattle.pc_stopping.specs.Members.{base_at, names_of_items, HoldsTables, IsTableOf}
 
 -- ---- what a name has
 
@@ -28,14 +28,14 @@ zero_at None e = refl
 zero_at (Some n) e = absurd (true≢false e)
 
 module _ {S : Type 0} (h : Holdings) (bound : IndexMap (Bor (List ℕ)) ℕ S) (before : List Item)
-    (s : Stands h bound before) where
+    (s : HoldsTables h bound before) where
   -- the table of a base has what the class inherits
   pub base_has : (o : Option (List ℕ)) → HasIn h (base_at bound o) (members_of before o)
   base_has None = subst (HasIn h 0) (sym (nothing_above before)) s.empty
   base_has (Some n) = s.tables n
 
   -- a name that no item before binds has nothing
-  pub unbound : (n : List ℕ) → is_among (names_before before) n ≡ false → HasIn h 0 (members_of before (Some n))
+  pub unbound : (n : List ℕ) → is_among (names_of_items before) n ≡ false → HasIn h 0 (members_of before (Some n))
   unbound n e = subst (λ (t : ℕ). HasIn h t (members_of before (Some n))) (zero_at (at_text bound n) (s.named n ∙ e))
       (s.tables n)
 
@@ -51,7 +51,7 @@ other_name (class_item p c) before n e = ap (λ (b : Bool). if b && is_first_bin
     (Some n)) e
 
 -- nor does one of a name that is bound already
-bound_name : (i : Item) (before : List Item) (n : List ℕ) → is_among (names_before before) n ≡ true
+bound_name : (i : Item) (before : List Item) (n : List ℕ) → is_among (names_of_items before) n ≡ true
     → members_of (i ∷ before) (Some n) ≡ members_of before (Some n)
 bound_name (constant_item p c) before n e = refl
 bound_name (def_item p f) before n e = refl
@@ -62,7 +62,7 @@ bound_name (class_item p c) before n e = go (bytes_eq c.name.text n) refl
         (Some n)) ≡ members_of before (Some n)
     go true is = ap (λ (a : Bool). if not a && not (is_reserved c.name.text) then members_of before (option_text c.base)
         ++ own_members [] (members_of before (option_text c.base)) c.members else members_of before (Some n))
-        (ap (is_among (names_before before)) ((bytes_eq-Decides c.name.text n).0 is) ∙ e)
+        (ap (is_among (names_of_items before)) ((bytes_eq-Decides c.name.text n).0 is) ∙ e)
     go false is = refl
 
 and_never : (a b : Bool) → (a && (b && false)) ≡ false
@@ -74,16 +74,16 @@ and_never false b = refl
 pub reserved_class : (p : Place) (c : ClassDef) (before : List Item) → is_reserved c.name.text ≡ true
     → members_of (class_item p c ∷ before) (Some c.name.text) ≡ members_of before (Some c.name.text)
 reserved_class p c before e =
-    ap (λ (r : Bool). if bytes_eq c.name.text c.name.text && (not (is_among (names_before before) c.name.text) && not r)
+    ap (λ (r : Bool). if bytes_eq c.name.text c.name.text && (not (is_among (names_of_items before) c.name.text) && not r)
     then members_of before (option_text c.base) ++ own_members [] (members_of before (option_text c.base)) c.members
     else members_of before (Some c.name.text)) e
     ∙ ap (λ (b : Bool). if b then members_of before (option_text c.base) ++ own_members []
     (members_of before (option_text c.base)) c.members else members_of before (Some c.name.text))
-    (and_never (bytes_eq c.name.text c.name.text) (not (is_among (names_before before) c.name.text)))
+    (and_never (bytes_eq c.name.text c.name.text) (not (is_among (names_of_items before) c.name.text)))
 
 -- a class of a free name has what it inherits, and its own members
 pub free_class : (p : Place) (c : ClassDef) (before : List Item) → is_reserved c.name.text ≡ false
-    → is_among (names_before before) c.name.text ≡ false
+    → is_among (names_of_items before) c.name.text ≡ false
     → members_of (class_item p c ∷ before) (Some c.name.text) ≡ members_of before (option_text c.base) ++ own_members []
     (members_of before (option_text c.base)) c.members
 free_class p c before r e =
@@ -108,14 +108,14 @@ or_false false = refl
 
 module _ {S : Type 0} (old new : Holdings) (bound now : IndexMap (Bor (List ℕ)) ℕ S) (before : List Item) (i : Item)
     (t : ℕ)
-    (s : Stands old bound before) (keeps : Keeps old new) (binds : (n : List ℕ)
+    (s : HoldsTables old bound before) (keeps : Keeps old new) (binds : (n : List ℕ)
     → at_text now n ≡ first_of (at_text bound n) (bound_as (name_of_item i).text t n))
     (table : IsTableOf new before i t) where
   abbrev name : List ℕ
   name = (name_of_item i).text
 
   named_more : (n : List ℕ) (o : Option ℕ) → at_text bound n ≡ o → is_some (first_of o (bound_as name t n))
-      ≡ is_among (name ∷ names_before before) n
+      ≡ is_among (name ∷ names_of_items before) n
   named_more n (Some u) is = sym (or_true (bytes_eq name n)) ∙ ap (λ (b : Bool). bytes_eq name n || b)
       (sym (ap is_some is) ∙ s.named n)
   named_more n None is = go (bytes_eq name n) ∙ ap (λ (b : Bool). bytes_eq name n || b)
@@ -133,18 +133,18 @@ module _ {S : Type 0} (old new : Holdings) (bound now : IndexMap (Bor (List ℕ)
       (subst (λ (o : Option ℕ). HasIn old (unwrap_or o 0) (members_of before (Some n))) is (s.tables n)))
   table_more n None is = go (bytes_eq name n) refl
     where
-      unnamed : is_among (names_before before) n ≡ false
+      unnamed : is_among (names_of_items before) n ≡ false
       unnamed = sym (s.named n) ∙ ap is_some is
 
       go : (b : Bool) → bytes_eq name n ≡ b → HasIn new (unwrap_or (if b then Some t else None) 0)
           (members_of (i ∷ before) (Some n))
       go true e = let same : name ≡ n = (bytes_eq-Decides name n).0 e in
           subst (λ (m : List ℕ). HasIn new t (members_of (i ∷ before) (Some m))) same
-          (table (ap (is_among (names_before before)) same ∙ unnamed))
+          (table (ap (is_among (names_of_items before)) same ∙ unnamed))
       go false e = subst (HasIn new 0) (sym (other_name i before n e))
           (keeps.kept 0 (members_of before (Some n)) (unbound old bound before s n unnamed))
 
-  pub stands_more : Stands new now (i ∷ before)
+  pub stands_more : HoldsTables new now (i ∷ before)
   stands_more = record {
     empty = keeps.kept 0 [] s.empty;
     named = λ n. ap is_some (binds n) ∙ named_more n (at_text bound n) refl;

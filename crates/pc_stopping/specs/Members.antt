@@ -28,16 +28,16 @@ base_at bound None = 0
 base_at bound (Some n) = unwrap_or (at_text bound n) 0
 
 -- the names that items bind
-abbrev pub names_before : List Item → List (List ℕ)
-names_before before = map (λ i. (name_of_item i).text) before
+abbrev pub names_of_items : List Item → List (List ℕ)
+names_of_items before = map (λ i. (name_of_item i).text) before
 
 -- each name that an earlier item binds has the table of the class of that name; any other name has the empty table
-pub record Stands {S : Type 0} (h : Holdings) (bound : IndexMap (Bor (List ℕ)) ℕ S) (before : List Item) : Type 0 where
+pub record HoldsTables {S : Type 0} (h : Holdings) (bound : IndexMap (Bor (List ℕ)) ℕ S) (before : List Item) : Type 0 where
   pub empty : HasIn h 0 []
-  pub named : (n : List ℕ) → is_some (at_text bound n) ≡ is_among (names_before before) n
+  pub named : (n : List ℕ) → is_some (at_text bound n) ≡ is_among (names_of_items before) n
   pub tables : (n : List ℕ) → HasIn h (base_at bound (Some n)) (members_of before (Some n))
 
 -- the table of an item's name, if no earlier item binds it
 abbrev pub IsTableOf : Holdings → List Item → Item → ℕ → Type 0
-IsTableOf h before item table = is_among (names_before before) (name_of_item item).text ≡ false
+IsTableOf h before item table = is_among (names_of_items before) (name_of_item item).text ≡ false
     → HasIn h table (members_of (item ∷ before) (Some (name_of_item item).text))

@@ -9,7 +9,7 @@ ghost use Rattle.pc_tree.specs.Stopping.{clashes_among, clashing_in, clashing_me
 ghost use Rattle.pc_tree.specs.Names.{texts_in};
 ghost use Rattle.pc_tree.specs.Code.{at_code};
 ghost use Rattle.pc_stopping.specs.Holdings.{HasIn, Keeps};
-ghost use Rattle.pc_stopping.specs.Members.{clashes_with, held_unless, base_at, Stands, IsTableOf};
+ghost use Rattle.pc_stopping.specs.Members.{clashes_with, held_unless, base_at, HoldsTables, IsTableOf};
 
 use crate::holdings::{EMPTY, Holding, Holdings};
 use crate::reserved::has_reserved_name;
@@ -158,10 +158,10 @@ fn find_in_item<'m>(
 ) -> Result<usize, OutOfMemory>
     requires { (base : Option (List ℕ)) → base_at bound.now base < length holdings.old.tables }
     ensures keeps { OnOk result (Keeps holdings.old holdings.new) }
-    ensures found { (before : List ItemOf) → Stands holdings.old bound.now before
+    ensures found { (before : List ItemOf) → HoldsTables holdings.old bound.now before
         → OnOk result (found.new.items ≡ found.old.items ++ at_code E06 (clashing_in before (item_of item.now ∷ []))) }
     ensures has { IfOk result
-        (λ t. (before : List ItemOf) → Stands holdings.old bound.now before
+        (λ t. (before : List ItemOf) → HoldsTables holdings.old bound.now before
         → IsTableOf holdings.new before (item_of item.now) t) }
 {
     match &item.kind {

@@ -22,7 +22,7 @@ use Rattle.pc_token.specs.Names.{is_bad_name}
 use Rattle.pc_token.specs.Numbers.{is_number_byte, is_bad_number, is_bad_point, number_run, after_number, digit_count}
 use Rattle.pc_token.specs.Operators.{operator_text, role_of}
 use Rattle.pc_token.specs.Spelling.{IsLongest}
-use Rattle.pc_token.specs.Splitting.{Sort, Blanks, Comment, LineEnd, Lexical, Piece, FitsBySort, MayOpenOrClose, Ending}
+use Rattle.pc_token.specs.Splitting.{Sort, Blanks, Comment, LineEnd, Lexical, Piece, FitsBySort, MayOpenOrClose, SplitEnd}
 use Rattle.pc_token.specs.Splitting.{Whole, Faulty, Splits, after, items_of, at_sort, HasLines}
 use Rattle.pc_token.proofs.Lists.{list_all-at}
 use Rattle.pc_token.proofs.LongestNumber.{number_longest}
@@ -203,7 +203,7 @@ no_end_fault c S1 k none f = f
 no_end_fault c _ k none f = f
 
 -- the ways in which a text goes on give the same lines
-pub one_split : (ps qs : List Piece) (c : LexicalContext) (text : List ℕ) (e f : Ending) → Splits c ps text e
+pub one_split : (ps qs : List Piece) (c : LexicalContext) (text : List ℕ) (e f : SplitEnd) → Splits c ps text e
     → Splits c qs text f → items_of c ps e ≡ items_of c qs f
 one_split [] [] c text Whole Whole h g = refl
 one_split [] [] c text Whole (Faulty code k) h g =

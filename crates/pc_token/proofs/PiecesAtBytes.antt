@@ -32,7 +32,7 @@ use Rattle.pc_token.specs.Lexeme.{form_of}
 use Rattle.pc_token.specs.Names.{begins_name, begins_word, IsName, name_form, is_bad_name}
 use Rattle.pc_token.specs.Numbers.{is_number_byte, is_bad_number, is_bad_point, digit_count}
 use Rattle.pc_token.specs.Operators.{operator_text, operators, role_of}
-use Rattle.pc_token.specs.Internal.LineReading.{GoesTo, IsFound, IsBracketFault}
+use Rattle.pc_token.specs.Internal.LineReading.{GoesTo, IsNextToken, IsBracketFault}
 use Rattle.pc_token.specs.Spelling.{IsToken, IsLongest}
 use Rattle.pc_token.specs.Splitting.{Blanks, Lexical, MayOpenOrClose}
 use Rattle.pc_token.specs.Strings.{is_quote, is_tripled, IsString}
@@ -109,7 +109,7 @@ module _ (c : LexicalContext) (text bs : List ℕ) (len : ℕ) (at_rest : bs ≡
     (boundary : IsCharBoundary text c.at) where
   -- a string
   pub string_read : touches_word c ≡ false → is_tripled bs ≡ false → len ≤ length bs → IsString (take len bs)
-      → IsFound c text (record { kind = t.Str; end = c.at + len; form = None })
+      → IsNextToken c text (record { kind = t.Str; end = c.at + len; form = None })
   string_read apart once within string =
       let (some, low) = string_end bs len within string in
       let rest : drop c.at text ≡ bs = sym at_rest in
@@ -124,7 +124,7 @@ module _ (c : LexicalContext) (text bs : List ℕ) (len : ℕ) (at_rest : bs ≡
   -- a number
   pub number_read : 0 < length bs → is_ascii_digit (get_or text c.at 0) ≡ true → len ≡ prefix_len is_number_byte bs
       → is_bad_number (drop c.at text) ≡ false → digit_count (take len bs) ≤ 1000
-      → IsFound c text (record { kind = t.Int; end = c.at + len; form = None })
+      → IsNextToken c text (record { kind = t.Int; end = c.at + len; form = None })
   number_read there digit run good few =
       let rest : drop c.at text ≡ bs = sym at_rest in
       let u = IsUtf8-drop text c.at utf8 boundary in
@@ -154,7 +154,7 @@ pub operator_read : (c : LexicalContext) (text : List ℕ) (x : Operator) → Is
     → drop c.at text ≡ operator_text x ++ drop (length (operator_text x)) (drop c.at text)
     → IsLongest (t.Operator x) (operator_text x) (drop (length (operator_text x)) (drop c.at text))
     → MayOpenOrClose (role_of x) c.brackets → is_bad_point (drop c.at text) ≡ false
-    → IsFound c text (record { kind = t.Operator x; end = c.at + length (operator_text x); form = None })
+    → IsNextToken c text (record { kind = t.Operator x; end = c.at + length (operator_text x); form = None })
 operator_read c text x utf8 boundary front longest stands good =
     let bs = drop c.at text in
     let len = length (operator_text x) in
@@ -206,7 +206,7 @@ module _ (c : LexicalContext) (text : List ℕ) (end : ℕ) (utf8 : IsUtf8 text)
 
   -- a keyword
   pub keyword_read : (k : Keyword) → find (λ x. bytes_eq (keyword_text x) (slice_range text c.at end)) keywords ≡ Some k
-      → IsFound c text (record { kind = t.Keyword k; end = end; form = None })
+      → IsNextToken c text (record { kind = t.Keyword k; end = end; form = None })
   keyword_read k found = record {
     piece = record {
       later = word_later;
@@ -230,7 +230,7 @@ module _ (c : LexicalContext) (text : List ℕ) (end : ℕ) (utf8 : IsUtf8 text)
       → find (λ x. bytes_eq (keyword_text x) (slice_range text c.at end)) keywords ≡ None
       → is_bad_name c.last (slice_range text c.at end) ≡ false
       → form_of (slice_range text c.at end) form ≡ name_form (slice_range text c.at end)
-      → IsFound c text (record { kind = t.Name; end = end; form = form })
+      → IsNextToken c text (record { kind = t.Name; end = end; form = form })
   name_read form none good is = record {
     piece = record { later = word_later; boundary = edge; fits = (name_longest none, good) };
     form = is;

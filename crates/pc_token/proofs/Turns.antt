@@ -13,9 +13,9 @@ use Rattle.pc_token.specs.declared.line_lexer.LineLexer.{LineLexer}
 use Rattle.pc_token.specs.declared.token.Operator.{Operator}
 use Rattle.pc_token.specs.Context.{LexicalContext, line_start, after_gap, after_line_end}
 use Rattle.pc_token.specs.Lexeme.{LogicalLine, lexeme_of}
-use Rattle.pc_token.specs.Internal.LineReading.{GoesTo, IsFound, TakesToken, LeavesFrom, IsRefusedHere, IsRefusedLater}
+use Rattle.pc_token.specs.Internal.LineReading.{GoesTo, IsNextToken, TakesToken, LeavesFrom, IsRefusedHere, IsRefusedLater}
 use Rattle.pc_token.specs.Internal.LineReading.{ReadsLine, context_of}
-use Rattle.pc_token.specs.Splitting.{Blanks, Comment, LineEnd, Lexical, at_line_end, close_line, Continues}
+use Rattle.pc_token.specs.Splitting.{Blanks, Comment, LineEnd, Lexical, items_from_line_end, close_line, Continues}
 use Rattle.pc_token.proofs.Steps.{step_on, refused_on, piece_length}
 
 pub nil_is : {A : Type 0} (xs : List A) → length xs ≡ 0 → xs ≡ []
@@ -28,7 +28,7 @@ inner_context [] c bytes some = absurd (some refl)
 inner_context (b ∷ bs) c bytes some = refl
 
 inner_items : (brackets : List Operator) (c : LexicalContext) (items : List (Result LogicalLine Refusal))
-    → (length brackets ≡ 0 → ⊥) → at_line_end brackets c items ≡ items
+    → (length brackets ≡ 0 → ⊥) → items_from_line_end brackets c items ≡ items
 inner_items [] c items some = absurd (some refl)
 inner_items (b ∷ bs) c items some = refl
 
@@ -62,7 +62,7 @@ module _ (r : LineLexer) (end : ℕ) (within : end ≤ length r.text.now) (items
   outer_leaves none goes h =
       let nil = nil_is r.brackets.items none in
       let later = goes.later in
-      subst (λ x. LeavesFrom r (at_line_end x (context_of r) items)) nil
+      subst (λ x. LeavesFrom r (items_from_line_end x (context_of r) items)) nil
       (step_on (context_of r) r.text.now LineEnd end items goes
       (subst (λ c. Continues c (drop end r.text.now) items)
       (sym (ap (λ x. after_line_end x (context_of r) (slice_range r.text.now r.at end)) nil
@@ -91,7 +91,7 @@ module _ (r : LineLexer) (end : ℕ) (within : end ≤ length r.text.now) (items
 
 -- past a token
 pub token_leaves : (old new : LineLexer) (found : FoundToken) (items : List (Result LogicalLine Refusal))
-    → IsFound (context_of old) old.text.now found → TakesToken old new found
+    → IsNextToken (context_of old) old.text.now found → TakesToken old new found
     → LeavesFrom new items → LeavesFrom old items
 token_leaves old new found items is takes h =
     step_on (context_of old) old.text.now (Lexical found.kind) found.end items is.piece

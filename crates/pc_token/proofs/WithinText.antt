@@ -15,10 +15,10 @@ use Rattle.pc_token.specs.declared.stream.Lines.{Lines}
 use Rattle.pc_token.specs.declared.token.Line.{Line}
 use Rattle.pc_token.specs.Context.{LexicalContext, line_start, after_line_end, lexeme_at}
 use Rattle.pc_token.specs.Faults.{IsFault}
-use Rattle.pc_token.specs.Lexeme.{Lexeme, LogicalLine, line_of}
+use Rattle.pc_token.specs.Lexeme.{Lexeme, LogicalLine, logical_line_of}
 use Rattle.pc_token.specs.Remaining.{HasLeft, gives}
-use Rattle.pc_token.specs.Splitting.{Sort, Blanks, Comment, LineEnd, Lexical, Piece, after_sort, Ending, Whole, Faulty}
-use Rattle.pc_token.specs.Splitting.{Splits, close_line, at_line_end, at_sort, items_of, HasLines, HasOnly}
+use Rattle.pc_token.specs.Splitting.{Sort, Blanks, Comment, LineEnd, Lexical, Piece, after_sort, SplitEnd, Whole, Faulty}
+use Rattle.pc_token.specs.Splitting.{Splits, close_line, items_from_line_end, at_sort, items_of, HasLines, HasOnly}
 use Rattle.pc_token.specs.Within.{AreWithin, LinesWithin, ItemsWithin}
 
 abbrev Items : Type 0
@@ -73,7 +73,7 @@ module _ (len : ℕ) where
   closed start (x ∷ xs) items h rest = (h, rest)
 
   at_feed : (brackets : List Operator) (c : LexicalContext) (items : Items) → AreWithin len c.done
-      → ItemsWithin len items → ItemsWithin len (at_line_end brackets c items)
+      → ItemsWithin len items → ItemsWithin len (items_from_line_end brackets c items)
   at_feed [] c items h rest = closed c.start c.done items h rest
   at_feed (b ∷ bs) c items h rest = rest
 
@@ -84,7 +84,7 @@ module _ (len : ℕ) where
   at_piece LineEnd c items h rest = at_feed c.brackets c items h rest
   at_piece (Lexical kind) c items h rest = rest
 
-  walk : (ps : List Piece) (c : LexicalContext) (text : List ℕ) (ending : Ending) → c.at + length text ≡ len
+  walk : (ps : List Piece) (c : LexicalContext) (text : List ℕ) (ending : SplitEnd) → c.at + length text ≡ len
       → AreWithin len c.done → Splits c ps text ending → ItemsWithin len (items_of c ps ending)
   walk [] c text Whole at h s = closed c.start c.done [] h tt
   walk [] c text (Faulty code k) at h s = (omega (arith, at, fault_within c text code k s), tt)
@@ -126,11 +126,11 @@ answer_within text (Err fault.OutOfMemory) h = tt
 -- ---- of the iterator over lines
 
 left_before : (ls : List Line) (s : Lines) (r : Refusal) → Yields gives s (map Ok ls ++ Err (fault.Refused r) ∷ [])
-    → HasLeft s (map Ok (map line_of ls) ++ Err r ∷ [])
+    → HasLeft s (map Ok (map logical_line_of ls) ++ Err r ∷ [])
 left_before [] s r (none, t, g) = g.1
-left_before (l ∷ ls) s r (t, g, more) = g (map Ok (map line_of ls) ++ Err r ∷ []) (left_before ls t r more)
+left_before (l ∷ ls) s r (t, g, more) = g (map Ok (map logical_line_of ls) ++ Err r ∷ []) (left_before ls t r more)
 
 pub lines_within : (text : List ℕ) (s : Lines) → ((items : Items) → HasLeft s items → HasLines text items)
     → RefusesWithin gives (length text) s
-lines_within text s left ls r h = refused_within text (map line_of ls) r
-    (left (map Ok (map line_of ls) ++ Err r ∷ []) (left_before ls s r h))
+lines_within text s left ls r h = refused_within text (map logical_line_of ls) r
+    (left (map Ok (map logical_line_of ls) ++ Err r ∷ []) (left_before ls s r h))

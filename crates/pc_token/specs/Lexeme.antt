@@ -30,5 +30,5 @@ abbrev pub lexeme_of : Token (Bor (List ℕ)) → Lexeme
 lexeme_of t = record { kind = t.kind; place = t.place; text = t.text.now; form = form_of t.text.now t.form }
 
 -- a logical line of the program, independent of its layout in memory
-abbrev pub line_of : Line → LogicalLine
-line_of l = record { column = l.column; lexemes = map lexeme_of l.tokens.items }
+abbrev pub logical_line_of : Line → LogicalLine
+logical_line_of l = record { column = l.column; lexemes = map lexeme_of l.tokens.items }

@@ -8,7 +8,7 @@ use Rattle.pc_source.specs.declared.fault.Refusal.{Refusal}
 use Rattle.pc_token.specs.declared.stream.Lines.{Lines}
 use Rattle.pc_token.specs.declared.token.Line.{Line}
 use Rattle.pc_token.specs.Context.{line_start}
-use Rattle.pc_token.specs.Lexeme.{LogicalLine, line_of}
+use Rattle.pc_token.specs.Lexeme.{LogicalLine, logical_line_of}
 use Rattle.pc_token.specs.Splitting.{Continues}
 
 -- these logical lines are left to the iterator, up to the first fault
@@ -20,7 +20,7 @@ HasLeft s items = MatchBool s.done (items ≡ []) (Continues (line_start s.at) (
 abbrev pub gives : Lines → Option (Result Line Fault) → Lines → Type 0
 gives s r t = MatchOption r (HasLeft s [] × (t.done ≡ true))
     (λ i. MatchResult i
-    (λ l. (items : List (Result LogicalLine Refusal)) → HasLeft t items → HasLeft s (Ok (line_of l) ∷ items))
+    (λ l. (items : List (Result LogicalLine Refusal)) → HasLeft t items → HasLeft s (Ok (logical_line_of l) ∷ items))
     (λ e. (t.done ≡ true) × OnRefusal (λ refusal. HasLeft s (Err refusal ∷ [])) e))
 
 -- at most this many further calls give an item
@@ -29,4 +29,4 @@ items_left s = at_most (if s.done then 0 else length s.text.now - s.at + 1)
 
 -- these lines as items without a fault
 abbrev pub all_read : List Line → List (Result LogicalLine Refusal)
-all_read ls = map (λ l. Ok (line_of l)) ls
+all_read ls = map (λ l. Ok (logical_line_of l)) ls

@@ -71,12 +71,12 @@ abbrev pub after : LexicalContext → Piece → LexicalContext
 after c p = after_sort c p.sort p.bytes
 
 -- the end of a split: the end of the text, or a fault some bytes on
-pub data Ending : Type 0 where
-  Whole : Ending
-  Faulty : RefusalCode → ℕ → Ending
+pub data SplitEnd : Type 0 where
+  Whole : SplitEnd
+  Faulty : RefusalCode → ℕ → SplitEnd
 
 -- the text is these pieces in order, each fitting at its place, and then ends with no open bracket, or has this fault
-abbrev pub Splits : LexicalContext → List Piece → List ℕ → Ending → Type 0
+abbrev pub Splits : LexicalContext → List Piece → List ℕ → SplitEnd → Type 0
 Splits c [] text Whole = (text ≡ []) × (c.brackets ≡ [])
 Splits c [] text (Faulty code k) = IsFault c text code k
 Splits c (p ∷ ps) text ending = (rest : List ℕ) × (text ≡ p.bytes ++ rest) × Fits c p rest
@@ -88,26 +88,26 @@ close_line start [] others = others
 close_line start (x ∷ xs) others = Ok (record { column = x.place.start - start; lexemes = x ∷ xs }) ∷ others
 
 -- the items from a line end on, which ends the logical line if no bracket is open
-abbrev pub at_line_end : List Operator → LexicalContext → List (Result LogicalLine Refusal)
+abbrev pub items_from_line_end : List Operator → LexicalContext → List (Result LogicalLine Refusal)
     → List (Result LogicalLine Refusal)
-at_line_end [] c others = close_line c.start c.done others
-at_line_end (_ ∷ _) c others = others
+items_from_line_end [] c others = close_line c.start c.done others
+items_from_line_end (_ ∷ _) c others = others
 
 -- the logical line that ends at a piece of this sort, if one does, before the other items
 abbrev pub at_sort : Sort → LexicalContext → List (Result LogicalLine Refusal) → List (Result LogicalLine Refusal)
-at_sort LineEnd c others = at_line_end c.brackets c others
+at_sort LineEnd c others = items_from_line_end c.brackets c others
 at_sort _ c others = others
 
 -- the logical lines that end in these pieces, each with its column, the number of spaces before its first token; then
 -- the refusal, if the split ends at a fault
-abbrev pub items_of : LexicalContext → List Piece → Ending → List (Result LogicalLine Refusal)
+abbrev pub items_of : LexicalContext → List Piece → SplitEnd → List (Result LogicalLine Refusal)
 items_of c [] Whole = close_line c.start c.done []
 items_of c [] (Faulty code k) = Err (record { code = code; byte = c.at + k }) ∷ []
 items_of c (p ∷ ps) ending = at_sort p.sort c (items_of (after c p) ps ending)
 
 -- the text from here gives these logical lines, up to the first fault
 abbrev pub Continues : LexicalContext → List ℕ → List (Result LogicalLine Refusal) → Type 0
-Continues c text items = (ps : List Piece) × (ending : Ending) × Splits c ps text ending × (items_of c ps ending ≡ items)
+Continues c text items = (ps : List Piece) × (ending : SplitEnd) × Splits c ps text ending × (items_of c ps ending ≡ items)
 
 -- the logical lines of a text, up to its first fault
 abbrev pub HasLines : List ℕ → List (Result LogicalLine Refusal) → Type 0

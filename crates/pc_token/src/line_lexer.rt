@@ -67,7 +67,7 @@ fn is_bad_tab(bytes: &[u8], spaces: usize, len: usize) -> bool
 }
 
 impl<'a> LineLexer<'a> {
-    ghost use Rattle.pc_token.specs.Internal.LineReading.{context_of, GoesTo, IsFound, IsNext, IsRefusedHere};
+    ghost use Rattle.pc_token.specs.Internal.LineReading.{context_of, GoesTo, IsNextToken, IsNext, IsRefusedHere};
     ghost use Rattle.pc_token.specs.Internal.LineReading.{IsBracketFault};
     ghost use Rattle.pc_token.specs.Splitting.{Blanks, Comment, LineEnd, MayOpenOrClose};
 
@@ -136,7 +136,7 @@ impl<'a> LineLexer<'a> {
         requires within { self.now.at < length self.now.text.now }
         requires boundary { IsCharBoundary self.now.text.now self.now.at }
         requires here { is_quote (slice_index self.now.text.now self.now.at) ≡ true }
-        ensures next { IfOk result (IsFound (context_of self.now) self.now.text.now) }
+        ensures next { IfOk result (IsNextToken (context_of self.now) self.now.text.now) }
         ensures refused { IfErr result (OnRefusal (IsRefusedHere (context_of self.now) self.now.text.now)) }
     {
         let bytes = self.rest();
@@ -169,7 +169,7 @@ impl<'a> LineLexer<'a> {
         requires within { self.now.at < length self.now.text.now }
         requires boundary { IsCharBoundary self.now.text.now self.now.at }
         requires here { is_ascii_digit (slice_index self.now.text.now self.now.at) ≡ true }
-        ensures next { IfOk result (IsFound (context_of self.now) self.now.text.now) }
+        ensures next { IfOk result (IsNextToken (context_of self.now) self.now.text.now) }
         ensures refused { IfErr result (OnRefusal (IsRefusedHere (context_of self.now) self.now.text.now)) }
     {
         if is_bad_number(self.text, self.at) {
@@ -196,7 +196,7 @@ impl<'a> LineLexer<'a> {
         requires no_line_end { starts_line_end (drop self.now.at self.now.text.now) ≡ false }
         requires no_quote { is_quote (slice_index self.now.text.now self.now.at) ≡ false }
         requires no_digit { is_ascii_digit (slice_index self.now.text.now self.now.at) ≡ false }
-        ensures next { IfOk result (IsFound (context_of self.now) self.now.text.now) }
+        ensures next { IfOk result (IsNextToken (context_of self.now) self.now.text.now) }
         ensures refused { IfErr result (OnRefusal (IsRefusedHere (context_of self.now) self.now.text.now)) }
     {
         if begins_word(self.text, self.at) {
@@ -213,7 +213,7 @@ impl<'a> LineLexer<'a> {
         requires within { self.now.at < length self.now.text.now }
         requires boundary { IsCharBoundary self.now.text.now self.now.at }
         requires here { begins_word (drop self.now.at self.now.text.now) ≡ true }
-        ensures next { IfOk result (IsFound (context_of self.now) self.now.text.now) }
+        ensures next { IfOk result (IsNextToken (context_of self.now) self.now.text.now) }
         ensures refused { IfErr result (OnRefusal (IsRefusedHere (context_of self.now) self.now.text.now)) }
     {
         let (end, known_ascii) = name_end(self.text, self.at);
@@ -260,7 +260,7 @@ impl<'a> LineLexer<'a> {
             ≡ operator_text operator ++ drop (length (operator_text operator)) (drop self.now.at self.now.text.now) }
         requires here { IsLongest (TokenKind.Operator operator) (operator_text operator)
             (drop (length (operator_text operator)) (drop self.now.at self.now.text.now)) }
-        ensures next { IfOk result (IsFound (context_of self.now) self.now.text.now) }
+        ensures next { IfOk result (IsNextToken (context_of self.now) self.now.text.now) }
         ensures refused { IfErr result (OnRefusal (IsRefusedHere (context_of self.now) self.now.text.now)) }
     {
         if let Some(code) = self.bracket_fault(operator) {

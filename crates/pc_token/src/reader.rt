@@ -1,7 +1,7 @@
 //! Reading one logical line.
 ghost use Rattle.std.specs.Prelude.{◌≡◌, ◌-◌, List, [], ◌∷◌, ◌++◌, map, Result, OnOk, MatchOption, MatchResult};
 ghost use Rattle.pc_source.specs.declared.fault.Refusal.{Refusal};
-ghost use Rattle.pc_token.specs.Lexeme.{LogicalLine, line_of, lexeme_of};
+ghost use Rattle.pc_token.specs.Lexeme.{LogicalLine, logical_line_of, lexeme_of};
 ghost use Rattle.pc_token.specs.Splitting.{close_line};
 ghost use Rattle.pc_token.specs.Context.{brackets_after};
 ghost use Rattle.std.specs.Str.{IsCharBoundary};
@@ -47,7 +47,7 @@ fn turn_bracket(brackets: &mut Vec<Operator>, kind: TokenKind) -> Result<(), All
 
 impl<'a> LineLexer<'a> {
     ghost use Rattle.pc_token.specs.Context.{line_start};
-    ghost use Rattle.pc_token.specs.Internal.LineReading.{context_of, IsFound, TakesToken, ReadsLine, IsRefusedLater};
+    ghost use Rattle.pc_token.specs.Internal.LineReading.{context_of, IsNextToken, TakesToken, ReadsLine, IsRefusedLater};
 
     /// Returns a reading at the start of a logical line, with `brackets` as its storage.
     pub(crate) fn new(
@@ -75,7 +75,7 @@ impl<'a> LineLexer<'a> {
     /// Adds a token to the line and goes to its end. Fails if an allocation fails.
     fn take(&mut self, found: FoundToken) -> Result<(), AllocError>
         requires boundary { IsCharBoundary self.old.text.now self.old.at }
-        requires found { IsFound (context_of self.old) self.old.text.now found }
+        requires found { IsNextToken (context_of self.old) self.old.text.now found }
         ensures { OnOk result (TakesToken self.old self.new found) }
     {
         let text = self.text;
@@ -140,7 +140,7 @@ impl<'a> LineLexer<'a> {
     pub(crate) fn into_line(self) -> Option<Line<'a>>
         ensures { MatchOption result (self.entry.tokens.items ≡ [])
             (λ l. (items : List (Result LogicalLine Refusal))
-            → close_line self.entry.start (map lexeme_of self.entry.tokens.items) items ≡ Ok (line_of l) ∷ items) }
+            → close_line self.entry.start (map lexeme_of self.entry.tokens.items) items ≡ Ok (logical_line_of l) ∷ items) }
     {
         let first = self.tokens.first()?;
         let column = first.place.start.saturating_sub(self.start);

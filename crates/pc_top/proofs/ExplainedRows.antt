@@ -19,7 +19,7 @@ use Rattle.pc_module_rules.specs.Laws.Flows.{TellsFlows}
 use Rattle.pc_module_rules.proofs.StandingFlows.{flows_found}
 use Rattle.pc_report.specs.declared.flow.FlowTexts.{FlowTexts}
 use Rattle.pc_report.specs.declared.report.Row.{Row}
-use Rattle.pc_report.specs.Flows.{IsListed, IsExplained}
+use Rattle.pc_report.specs.Flows.{HasFlowAt, IsExplained}
 use Rattle.pc_report.specs.Report.{ExplainsRows, row_findings, row_flow}
 use Rattle.pc_top.specs.Headline.{AreTextsOfFlow, IsExplainedRow}
 
@@ -48,7 +48,7 @@ holds_of P (y ∷ ys) x all h = elim (contains_cases y ys x h) [
 ]
 
 -- a place of texts is listed among them
-listed_place : (texts : List FlowText) (p : Place) → Contains (places_of texts) p → IsListed texts p
+listed_place : (texts : List FlowText) (p : Place) → Contains (places_of texts) p → HasFlowAt texts p
 listed_place [] p h = absurd (contains_none p h)
 listed_place (t ∷ ts) p h = elim (contains_cases t.0 (places_of ts) p h) [
   | inl e ↦ (t, contains_here t ts t refl, e)

@@ -4,7 +4,7 @@ use Rattle.std.proofs.Common.{refl, ap, sym, ◌∙◌, subst, flat_map, append_
 use Rattle.std.proofs.lemmas.List.{map-append, take_more}
 use Rattle.std.specs.Prelude.{◌↔◌}
 use Rattle.pc_tree.specs.Tree.{Module}
-use Rattle.pc_notes.specs.Notes.{Note, types_of, names_of}
+use Rattle.pc_notes.specs.Notes.{Note, types_of, names_of_notes}
 use Rattle.pc_module_rules.specs.Modules.{Labelling, IsLawful}
 use Rattle.pc_module_rules.specs.Computed.Modules.{module_notes}
 use Rattle.pc_module_rules.specs.Laws.Names.{as_noted, names_by_labels}
@@ -37,7 +37,7 @@ mapped_twice f g (x ∷ xs) = ap (λ l. g (f x) ∷ l) (mapped_twice f g xs)
 -- the names noted of a module, and those whose types are by annotations alone, are the names bound under its labels
 named_facts : (m : Module) (labels : Labelling m) → IsLawful m labels
     → map (name_fact m) (flat_map (names_declared m) m.items)
-    ++ map (noted_fact m) (names_of (module_notes true m [])) ≡ map (name_fact m) (names_under m labels)
+    ++ map (noted_fact m) (names_of_notes (module_notes true m [])) ≡ map (name_fact m) (names_under m labels)
 named_facts m labels l =
     let declared : List NameAt = flat_map (names_declared m) m.items in
     let others : List NameAt = names_by_labels m labels in
@@ -49,20 +49,20 @@ named_facts m labels l =
 abbrev pub facts_noted : Module → List TypeFact
 facts_noted m = (map (expression_fact m) (types_of (module_notes true m []))
     ++ map (name_fact m) (flat_map (names_declared m) m.items))
-    ++ map (noted_fact m) (names_of (module_notes true m []))
+    ++ map (noted_fact m) (names_of_notes (module_notes true m []))
 
 -- entries of what is noted, with the names whose types are by annotations alone, are these
 pub all_noted : (m named : Module) (notes : List Note) (first second third : List TypeFact) → named ≡ m
     → notes ≡ module_notes true m [] → first ≡ map (expression_fact named) (types_of notes)
     → second ≡ first ++ map (name_fact m) (flat_map (names_declared m) m.items)
-    → third ≡ second ++ map (noted_fact named) (names_of notes) → third ≡ facts_noted m
+    → third ≡ second ++ map (noted_fact named) (names_of_notes notes) → third ≡ facts_noted m
 all_noted m named notes first second third of_module of_notes types declared others =
     let declared_facts : List TypeFact = map (name_fact m) (flat_map (names_declared m) m.items) in
     others
-    ∙ ap (λ (fs : List TypeFact). fs ++ map (noted_fact named) (names_of notes))
+    ∙ ap (λ (fs : List TypeFact). fs ++ map (noted_fact named) (names_of_notes notes))
     (declared ∙ ap (λ (fs : List TypeFact). fs ++ declared_facts) types)
     ∙ (λ i. (map (expression_fact (of_module i)) (types_of (of_notes i)) ++ declared_facts)
-    ++ map (noted_fact (of_module i)) (names_of (of_notes i)))
+    ++ map (noted_fact (of_module i)) (names_of_notes (of_notes i)))
 
 -- what is noted of a module is what its labels have
 noted_facts : (m : Module) (labels : Labelling m) → IsLawful m labels → facts_noted m ≡ facts_under m labels

@@ -9,7 +9,7 @@ ghost use Rattle.pc_annotations.specs.Annotations.{read_option};
 ghost use Rattle.pc_annotations.specs.Bases.{bases_of};
 ghost use Rattle.pc_annotations.specs.Named.{named_module};
 ghost use Rattle.pc_annotations.specs.Text.{type_text};
-ghost use Rattle.pc_notes.specs.Notes.{AreGivenBound, IsGivenBound, name_shown, names_of, notes_of};
+ghost use Rattle.pc_notes.specs.Notes.{AreGivenBound, IsGivenBound, name_shown, names_of_notes, notes_of};
 ghost use Rattle.pc_module_rules.specs.NamesOfModules.{field_name, names_declared, names_in_head, names_in_member};
 ghost use Rattle.pc_report.specs.TypeListing.{fact_of};
 ghost use Rattle.pc_top.specs.NamesRead.{IsNameReading, declared_name, module_read, noted_fact};
@@ -232,7 +232,7 @@ pub(crate) fn add_noted(
     entries: &mut Vec<TypeEntry>,
 ) -> Result<(), OutOfMemory>
     ensures { OnOk result (map fact_of entries.new.items ≡ map fact_of entries.old.items
-        ++ map (noted_fact (named_module names.now)) (names_of (notes_of notes.now))) }
+        ++ map (noted_fact (named_module names.now)) (names_of_notes (notes_of notes.now))) }
 {
     let noted = notes.names(alloc)?;
     for name in &noted {

@@ -7,7 +7,7 @@ ghost use Rattle.pc_top.specs.Headline.{Headline, OnCheckFault};
 use crate::checking::findings;
 use crate::fault::CheckFault;
 use crate::teardown::Teardown;
-use pc_front::module_in;
+use pc_front::parse_source;
 use pc_report::Report;
 use pc_source::read_source;
 use pc_tree::Code;
@@ -21,7 +21,7 @@ pub(crate) fn report_of(alloc: Global, bytes: &[u8], memory: Teardown) -> Result
     ensures within { IfErr result (OnCheckFault (λ refusal. refusal.byte ≤ length bytes.now)) }
 {
     let source = read_source(alloc, bytes)?;
-    let module = module_in(alloc, &source)?;
+    let module = parse_source(alloc, &source)?;
     let found = findings(alloc, &module)?;
     let flows = found.notes.texts(alloc, &module, Code::A1)?;
     let findings = found.notes.findings(alloc)?;

@@ -19,7 +19,7 @@ use crate::names::{NameReading, add_noted};
 use pc_annotations::{ClassNames, ModuleOutline, named_text, parents_of};
 use pc_check::check_module;
 use pc_class::{ClassTable, class_table};
-use pc_front::module_in;
+use pc_front::parse_source;
 use pc_intern::InternStore;
 use pc_notes::Notes;
 use pc_report::{TypeEntry, TypeKind, TypeListing, TypeRow};
@@ -162,7 +162,7 @@ pub fn types_of(alloc: Global, bytes: &[u8]) -> Result<TypeListing, CheckFault>
     ensures within { IfErr result (OnCheckFault (λ refusal. refusal.byte ≤ length bytes.now)) }
 {
     let source = read_source(alloc, bytes)?;
-    let module = module_in(alloc, &source)?;
+    let module = parse_source(alloc, &source)?;
     let entries = entries(alloc, &module)?;
     let listing = TypeListing::of(alloc, &source, entries)?;
     Ok(listing)

@@ -19,10 +19,10 @@ abbrev pub begun : Keys → KeyedHasher
 begun k = k.first
 
 -- a hash of all bytes of the text
-abbrev pub key_of : List ℕ → ℕ
-key_of text = sip.finish (sip.write sip.initial text)
+abbrev pub hash_of_text : List ℕ → ℕ
+hash_of_text text = sip.finish (sip.write sip.initial text)
 
 -- the keys of a text: each hash begins with the text's own hash
 abbrev pub keys_of : List ℕ → Keys
-keys_of text = let key = key_of text in
+keys_of text = let key = hash_of_text text in
     record { first = record { state = fold folding.write folding.initial (u64 key); key = key } }

@@ -4,6 +4,7 @@ ghost use Rattle.std.specs.Prelude.{◌≡◌};
 ghost use Rattle.pc_tree.specs.Keys.{keys_of, begun, written, finished};
 
 use pc_source::OutOfMemory;
+use std::alloc::AllocError;
 use std::fmt::{Debug, Formatter, Write};
 use std::hash::{BuildHasher, DefaultHasher, FoldHasher, Hasher, RandomState};
 use std::random::RandomSource;
@@ -63,7 +64,8 @@ impl Keys {
     pub fn state(self) -> Result<RandomState, OutOfMemory> {
         match RandomState::new(&KeyBytes(self.first.key)) {
             Ok(keys) => Ok(keys),
-            Err(_) => Err(OutOfMemory),
+            // `KeyBytes` always gives its bytes, which no clause of the kit's call says.
+            Err(_) => Err(OutOfMemory::from(AllocError)),
         }
     }
 }

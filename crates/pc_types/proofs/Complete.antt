@@ -1,7 +1,7 @@
 -- Assignable types meet, head by head.
 use Rattle.pc_types.specs.Tree.{Tree, Trees}
 use Rattle.pc_types.specs.Below.{Bases}
-use Rattle.pc_types.specs.Assignable.{Fills, FillsEach, any, object, never, int, bool, str, none_type, class, list}
+use Rattle.pc_types.specs.Assignable.{Materializes, FillsEach, any, object, never, int, bool, str, none_type, class, list}
 use Rattle.pc_types.specs.Assignable.{dict, tuple, union, none, one, Assignable}
 use Rattle.pc_types.proofs.Meets.{Meets, EachMeets, m_from_any, m_to_any, m_never, m_object, m_int, m_bool, m_bool_int}
 use Rattle.pc_types.proofs.Meets.{m_str, m_none, m_class, m_list, m_dict, m_tuple, m_both, m_left, m_right, m_end}
@@ -11,7 +11,7 @@ use Rattle.pc_types.proofs.Structural.{s_class, s_list, s_dict, s_tuple, s_both,
 use Rattle.pc_types.proofs.Structural.{below_of}
 
 mutual
-  meets_of : {bases : Bases} {s t u v : Tree} → Sub bases u v → Fills s u → Fills t v → Meets bases s t
+  meets_of : {bases : Bases} {s t u v : Tree} → Sub bases u v → Materializes s u → Materializes t v → Meets bases s t
   meets_of s_never (any p) g = m_from_any
   meets_of s_never never g = m_never
   meets_of s_object f (any p) = m_to_any

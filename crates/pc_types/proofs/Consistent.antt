@@ -2,11 +2,11 @@
 use Rattle.pc_types.specs.Tree.{Tree, Trees, Any, Object, Never, Int, Bool, Str, NoneType, Class, ListOf, DictOf}
 use Rattle.pc_types.specs.Tree.{TupleOf, Union, end, more, erase, erase_each}
 use Rattle.pc_types.specs.Below.{Bases, Static}
-use Rattle.pc_types.specs.Assignable.{Fills, FillsEach, Assignable}
+use Rattle.pc_types.specs.Assignable.{Materializes, FillsEach, Assignable}
 use Rattle.pc_types.specs.Assignable as fills
 
 mutual
-  fills_erased : (t : Tree) → Fills t (erase t)
+  fills_erased : (t : Tree) → Materializes t (erase t)
   fills_erased Any = fills.any tt
   fills_erased Object = fills.object
   fills_erased Never = fills.never

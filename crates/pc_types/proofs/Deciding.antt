@@ -6,7 +6,7 @@ use Rattle.pc_types.specs.Below.{Bases, Static}
 use Rattle.pc_types.specs.Assignable.{IsPlain, ArePlain, Assignable}
 use Rattle.pc_types.specs.Shape.{count}
 use Rattle.pc_types.specs.Normal.{member_rank, IsRankBefore, IsMember, IsAfter, IsKey, IsNormal, AreNormal}
-use Rattle.pc_types.specs.Internal.HeadFlow.{seen, seen_each, HeadFlow}
+use Rattle.pc_types.specs.Internal.HeadFlow.{as_tested, seen_each, HeadFlow}
 use Rattle.pc_types.proofs.Meets.{Meets, EachMeets, m_from_any, m_to_any, m_never, m_object, m_int, m_bool, m_bool_int}
 use Rattle.pc_types.proofs.Meets.{m_str, m_none, m_class, m_list, m_dict, m_tuple, m_both, m_left, m_right, m_end}
 use Rattle.pc_types.proofs.Meets.{m_more}
@@ -18,7 +18,7 @@ use Rattle.pc_types.proofs.Complete.{meets_from_assignable}
 use Rattle.pc_types.proofs.Agree.{flow_of_meets, meets_of_flow}
 
 mutual
-  pub seen_static : (t : Tree) → seen false t ≡ erase t
+  pub seen_static : (t : Tree) → as_tested false t ≡ erase t
   seen_static (ListOf t) = ap ListOf (seen_static t)
   seen_static (DictOf k v) = λ i. DictOf (seen_static k i) (seen_static v i)
   seen_static (TupleOf ts) = ap TupleOf (each_static ts)
@@ -30,7 +30,7 @@ mutual
   each_static (more t ts) = λ i. more (seen_static t i) (each_static ts i)
 
 mutual
-  pub seen_gradual : (t : Tree) → seen true t ≡ t
+  pub seen_gradual : (t : Tree) → as_tested true t ≡ t
   seen_gradual (ListOf t) = ap ListOf (seen_gradual t)
   seen_gradual (DictOf k v) = λ i. DictOf (seen_gradual k i) (seen_gradual v i)
   seen_gradual (TupleOf ts) = ap TupleOf (each_gradual ts)
@@ -134,7 +134,7 @@ mutual
 
 -- with Any read as object, the code decides static subtyping
 pub static_is_flow : (bases : Bases) (s t : Tree) → IsNormal s → IsNormal t
-    → HeadFlow bases false (seen false s) (seen false t) ↔ Static bases s t
+    → HeadFlow bases false (as_tested false s) (as_tested false t) ↔ Static bases s t
 static_is_flow bases s t m n =
     let l = normal_erase s m in
     let r = normal_erase t n in (
@@ -146,7 +146,7 @@ static_is_flow bases s t m n =
 
 -- with Any as it is, the code decides consistent subtyping
 pub assignable_is_flow : (bases : Bases) (s t : Tree) → IsNormal s → IsNormal t
-    → HeadFlow bases false (seen true s) (seen true t) ↔ Assignable bases s t
+    → HeadFlow bases false (as_tested true s) (as_tested true t) ↔ Assignable bases s t
 assignable_is_flow bases s t m n = (
   λ h. assignable_from_meets (meets_of_flow (subst₂ (HeadFlow bases false) (seen_gradual s) (seen_gradual t) h) m n) m
       n,

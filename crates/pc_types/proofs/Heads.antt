@@ -6,7 +6,7 @@ use Rattle.pc_types.specs.Tree.{TupleOf, Union}
 use Rattle.pc_types.specs.Below.{Bases, base_of, Below}
 use Rattle.pc_types.specs.Internal.HeadFlow.{Covers, c_from_any, c_to_any, c_never, c_object, c_int, c_bool, c_bool_int}
 use Rattle.pc_types.specs.Internal.HeadFlow.{c_str, c_none, c_class, c_list, c_dict, c_tuple, c_both, c_left, c_right}
-use Rattle.pc_types.specs.Internal.HeadFlow.{seen, HeadFits, FlowFits, HeadFlow, w_from_any, w_to_any, w_never}
+use Rattle.pc_types.specs.Internal.HeadFlow.{as_tested, HeadFits, FlowFits, HeadFlow, w_from_any, w_to_any, w_never}
 use Rattle.pc_types.specs.Internal.HeadFlow.{w_object, w_int, w_bool, w_bool_int, w_str, w_none, w_class, w_list}
 use Rattle.pc_types.specs.Internal.HeadFlow.{w_dict, w_tuple, w_both, w_left, w_right}
 use Rattle.pc_types.specs.Join.{same_tree}
@@ -143,7 +143,7 @@ covers_any false = c_object
 
 -- what an arm of a match leaves
 pub is_left : (g : Test) (s : BoxType) → (IsTrue g → s ≡ ty.Any → ⊥) → (s ≡ ty.Never → ⊥) → IsNoUnion s
-    → IsLeft (seen g (tree_of s))
+    → IsLeft (as_tested g (tree_of s))
 is_left true ty.Any a n u = absurd (a refl refl)
 is_left false ty.Any a n u = tt
 is_left _ ty.Never a n u = absurd (n refl)
@@ -151,7 +151,7 @@ is_left _ (ty.Union' p s q t) a n u = absurd u
 is_left _ _ a n u = tt
 
 pub is_right : (g : Test) (t : BoxType) → (t ≡ ty.Any → ⊥) → (t ≡ ty.Object → ⊥) → IsNoUnion t
-    → IsRight (seen g (tree_of t))
+    → IsRight (as_tested g (tree_of t))
 is_right g ty.Any n m u = absurd (n refl)
 is_right g ty.Object n m u = absurd (m refl)
 is_right g (ty.Union' p a q b) n m u = absurd u
@@ -191,21 +191,21 @@ is_no_union t n = go (out-BoxType t) (roll-out-BoxType t) n
     go (open-ty.Union a b) e n = absurd (n a b (sym e))
     go _ e n = subst IsNoUnion e tt
 
-tuple_not_any : (bases : Bases) (g : Test) (ss : Trees) → HeadFits bases (TupleOf ss) (seen g tree.Any) → ⊥
+tuple_not_any : (bases : Bases) (g : Test) (ss : Trees) → HeadFits bases (TupleOf ss) (as_tested g tree.Any) → ⊥
 tuple_not_any bases true ss h = h
 tuple_not_any bases false ss h = h
 
 pub tuple_only : (bases : Bases) (g : Test) (ss : Trees) (t : BoxType) → ((x : Vec BoxType Global) → t ≡ ty.Tuple x → ⊥)
-    → HeadFits bases (TupleOf ss) (seen g (tree_of t)) → ⊥
+    → HeadFits bases (TupleOf ss) (as_tested g (tree_of t)) → ⊥
 unfolding roll-BoxType denote.Hole.Carrier.roll
 tuple_only bases g ss t n h = go (out-BoxType t) (roll-out-BoxType t) n h
   where
     go : (o : BoxType-F BoxType) → roll-BoxType o ≡ t → ((x : Vec BoxType Global) → t ≡ ty.Tuple x → ⊥)
-        → HeadFits bases (TupleOf ss) (seen g (tree_of t)) → ⊥
+        → HeadFits bases (TupleOf ss) (as_tested g (tree_of t)) → ⊥
     go (open-ty.Tuple v) e n h = n v (sym e)
-    go open-ty.Any e n h = tuple_not_any bases g ss (subst (λ x. HeadFits bases (TupleOf ss) (seen g (tree_of x)))
+    go open-ty.Any e n h = tuple_not_any bases g ss (subst (λ x. HeadFits bases (TupleOf ss) (as_tested g (tree_of x)))
         (sym e) h)
-    go _ e n h = subst (λ x. HeadFits bases (TupleOf ss) (seen g (tree_of x))) (sym e) h
+    go _ e n h = subst (λ x. HeadFits bases (TupleOf ss) (as_tested g (tree_of x))) (sym e) h
 
 tuple_heads : (bases : Bases) (both : Test) (ss : Trees) (t : Tree) → FlowFits bases both (TupleOf ss) t
     → HeadFits bases (TupleOf ss) t
@@ -213,8 +213,8 @@ tuple_heads bases both ss (TupleOf ts) h = each_count h
 tuple_heads bases both ss _ h = h
 
 pub tuple_flows : (bases : Bases) (both g : Test) (ss : Trees) (t : BoxType)
-    → ((x : Vec BoxType Global) → t ≡ ty.Tuple x → ⊥) → FlowFits bases both (TupleOf ss) (seen g (tree_of t)) → ⊥
-tuple_flows bases both g ss t n h = tuple_only bases g ss t n (tuple_heads bases both ss (seen g (tree_of t)) h)
+    → ((x : Vec BoxType Global) → t ≡ ty.Tuple x → ⊥) → FlowFits bases both (TupleOf ss) (as_tested g (tree_of t)) → ⊥
+tuple_flows bases both g ss t n h = tuple_only bases g ss t n (tuple_heads bases both ss (as_tested g (tree_of t)) h)
 
 pub tuple_differs : (ss : Trees) (t : BoxType) → ((x : Vec BoxType Global) → t ≡ ty.Tuple x → ⊥)
     → false ≡ same_tree (TupleOf ss) (tree_of t)

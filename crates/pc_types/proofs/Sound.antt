@@ -4,7 +4,7 @@ use Rattle.pc_types.specs.Tree.{Tree, Trees, Any, Object, Never, Int, Bool, Str,
 use Rattle.pc_types.specs.Tree.{TupleOf, Union, end, more, erase, erase_each}
 use Rattle.pc_types.specs.Below.{Bases, Below, EachBelow}
 use Rattle.pc_types.specs.Below as below
-use Rattle.pc_types.specs.Assignable.{IsPlain, ArePlain, Fills, FillsEach, Assignable}
+use Rattle.pc_types.specs.Assignable.{IsPlain, ArePlain, Materializes, FillsEach, Assignable}
 use Rattle.pc_types.specs.Assignable as fill
 use Rattle.pc_types.proofs.Meets.{Meets, EachMeets, m_from_any, m_to_any, m_never, m_object, m_int, m_bool, m_bool_int}
 use Rattle.pc_types.proofs.Meets.{m_str, m_none, m_class, m_list, m_dict, m_tuple, m_both, m_left, m_right, m_end}
@@ -70,7 +70,7 @@ mutual
   plain_each (more t ts) = (plain_erase t, plain_each ts)
 
 mutual
-  fills_merge : (t u : Tree) → Fills t (merge t u)
+  fills_merge : (t u : Tree) → Materializes t (merge t u)
   fills_merge Any u = fill.any (plain_erase u)
   fills_merge Object u = fill.object
   fills_merge Never u = fill.never

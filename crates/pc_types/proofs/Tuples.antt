@@ -6,7 +6,7 @@ use mathlib.Core.Former.{Count}
 use Rattle.pc_types.specs.Tree.{Tree, Trees, TupleOf, more}
 use Rattle.pc_types.specs.Below.{Bases}
 use Rattle.pc_types.specs.Shape.{count, trees}
-use Rattle.pc_types.specs.Internal.HeadFlow.{FlowsBack, EachFlow, w_end, w_more, seen, seen_each}
+use Rattle.pc_types.specs.Internal.HeadFlow.{FlowsBack, EachFlow, w_end, w_more, as_tested, seen_each}
 use Rattle.pc_types.specs.Join.{same_tree, same_trees}
 use Rattle.pc_types.specs.Boxed.{tree_of, trees_of, trees_in}
 use Rattle.pc_types.specs.declared.boxed.BoxType.{BoxType, Row_of-BoxType, end_of-BoxType, more_of-BoxType}
@@ -38,7 +38,7 @@ count_in (t ∷ ts) = omega (arith, count_in ts)
 module _ (bases : Bases) (g both : Test) where
   -- one part flows into the other
   abbrev pub PartFlows : BoxType → BoxType → Type 0
-  PartFlows s t = FlowsBack bases both (seen g (tree_of s)) (seen g (tree_of t))
+  PartFlows s t = FlowsBack bases both (as_tested g (tree_of s)) (as_tested g (tree_of t))
 
   pub each_zip : (xs ys : List BoxType) → EachFlow bases both (seen_each g (trees_in xs)) (seen_each g (trees_in ys))
       → AllZip PartFlows xs ys

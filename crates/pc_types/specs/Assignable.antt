@@ -23,29 +23,29 @@ abbrev mutual
 -- replacement of each Any, in types and in the parts of tuples
 mutual
   -- the second is the first with each Any replaced by a tree without Any, each occurrence independently
-  pub data Fills : Tree → Tree → Type 0 where
-    any : {u : Tree} → IsPlain u → Fills Any u
-    object : Fills Object Object
-    never : Fills Never Never
-    int : Fills Int Int
-    bool : Fills Bool Bool
-    str : Fills Str Str
-    none_type : Fills NoneType NoneType
-    class : {c : ℕ} → Fills (Class c) (Class c)
-    list : {t u : Tree} → Fills t u → Fills (ListOf t) (ListOf u)
-    dict : {k l v w : Tree} → Fills k l → Fills v w → Fills (DictOf k v) (DictOf l w)
-    tuple : {ts us : Trees} → FillsEach ts us → Fills (TupleOf ts) (TupleOf us)
-    union : {a b c d : Tree} → Fills a c → Fills b d → Fills (Union a b) (Union c d)
+  pub data Materializes : Tree → Tree → Type 0 where
+    any : {u : Tree} → IsPlain u → Materializes Any u
+    object : Materializes Object Object
+    never : Materializes Never Never
+    int : Materializes Int Int
+    bool : Materializes Bool Bool
+    str : Materializes Str Str
+    none_type : Materializes NoneType NoneType
+    class : {c : ℕ} → Materializes (Class c) (Class c)
+    list : {t u : Tree} → Materializes t u → Materializes (ListOf t) (ListOf u)
+    dict : {k l v w : Tree} → Materializes k l → Materializes v w → Materializes (DictOf k v) (DictOf l w)
+    tuple : {ts us : Trees} → FillsEach ts us → Materializes (TupleOf ts) (TupleOf us)
+    union : {a b c d : Tree} → Materializes a c → Materializes b d → Materializes (Union a b) (Union c d)
 
   -- each part of the second tuple is the same part of the first with each Any replaced; both have the same length
   pub data FillsEach : Trees → Trees → Type 0 where
     none : FillsEach end end
-    one : {t u : Tree} {ts us : Trees} → Fills t u → FillsEach ts us → FillsEach (more t ts) (more u us)
+    one : {t u : Tree} {ts us : Trees} → Materializes t u → FillsEach ts us → FillsEach (more t ts) (more u us)
 
 -- some replacement of each Any in the two, each occurrence independently, makes the first a subtype of the second
 pub record Assignable (bases : Bases) (s t : Tree) : Type 0 where
   pub filled_left : Tree
   pub filled_right : Tree
-  pub fills_left : Fills s filled_left
-  pub fills_right : Fills t filled_right
+  pub fills_left : Materializes s filled_left
+  pub fills_right : Materializes t filled_right
   pub is_below : Below bases filled_left filled_right

@@ -4,7 +4,7 @@ ghost use Rattle.std.specs.Prelude.{◌≡◌, ◌↔◌, length, IsTrue, true};
 ghost use Rattle.pc_types.specs.Below.{Static};
 ghost use Rattle.pc_types.specs.Assignable.{Assignable};
 ghost use Rattle.pc_types.specs.Computed.{static_test, assignable_test};
-ghost use Rattle.pc_types.specs.Internal.HeadFlow.{Covers, HeadFlow, FlowsBack, EachFlow, FlowFits, HeadFits, seen};
+ghost use Rattle.pc_types.specs.Internal.HeadFlow.{Covers, HeadFlow, FlowsBack, EachFlow, FlowFits, HeadFits, as_tested};
 ghost use Rattle.pc_types.specs.Internal.HeadFlow.{seen_each};
 ghost use Rattle.pc_types.specs.Normal.{IsNormal};
 ghost use Rattle.pc_types.specs.Boxed.{tree_of, trees_in, IsNoUnion};
@@ -14,7 +14,7 @@ use crate::{BoxType, Parents};
 /// Returns whether each member of the first type has a counterpart in the second: a member with its head or one above
 /// it.
 fn covers(parents: &Parents, gradual: bool, s: &BoxType, t: &BoxType) -> bool
-    ensures { IsTrue result ↔ Covers parents.now (seen gradual (tree_of s.now)) (seen gradual (tree_of t.now)) }
+    ensures { IsTrue result ↔ Covers parents.now (as_tested gradual (tree_of s.now)) (as_tested gradual (tree_of t.now)) }
 {
     if gradual && matches!(s, BoxType::Any) {
         return true;
@@ -36,7 +36,7 @@ fn covers(parents: &Parents, gradual: bool, s: &BoxType, t: &BoxType) -> bool
 fn head_fits(parents: &Parents, gradual: bool, s: &BoxType, t: &BoxType) -> bool
     requires left { IsNoUnion s.now }
     requires right { IsNoUnion t.now }
-    ensures { IsTrue result ↔ HeadFits parents.now (seen gradual (tree_of s.now)) (seen gradual (tree_of t.now)) }
+    ensures { IsTrue result ↔ HeadFits parents.now (as_tested gradual (tree_of s.now)) (as_tested gradual (tree_of t.now)) }
 {
     match s {
         BoxType::Int => matches!(t, BoxType::Int),
@@ -61,7 +61,7 @@ fn head_fits(parents: &Parents, gradual: bool, s: &BoxType, t: &BoxType) -> bool
 /// `object`; if `both`, each part of a tuple in the second must also be covered by its counterpart in the first.
 #[cycle(flow)]
 fn flows(parents: &Parents, gradual: bool, both: bool, s: &BoxType, t: &BoxType) -> bool
-    ensures { IsTrue result ↔ HeadFlow parents.now both (seen gradual (tree_of s.now)) (seen gradual (tree_of t.now)) }
+    ensures { IsTrue result ↔ HeadFlow parents.now both (as_tested gradual (tree_of s.now)) (as_tested gradual (tree_of t.now)) }
 {
     if gradual && matches!(s, BoxType::Any) {
         return true;
@@ -87,7 +87,7 @@ fn flows(parents: &Parents, gradual: bool, both: bool, s: &BoxType, t: &BoxType)
 fn fits(parents: &Parents, gradual: bool, both: bool, s: &BoxType, t: &BoxType) -> bool
     requires left { IsNoUnion s.now }
     requires right { IsNoUnion t.now }
-    ensures { IsTrue result ↔ FlowFits parents.now both (seen gradual (tree_of s.now)) (seen gradual (tree_of t.now)) }
+    ensures { IsTrue result ↔ FlowFits parents.now both (as_tested gradual (tree_of s.now)) (as_tested gradual (tree_of t.now)) }
 {
     match s {
         BoxType::List(a) => match t {
@@ -111,7 +111,7 @@ fn fits(parents: &Parents, gradual: bool, both: bool, s: &BoxType, t: &BoxType) 
 /// Returns whether the first flows into the second and, if `both`, the second is covered by the first.
 #[cycle(flow)]
 fn agree(parents: &Parents, gradual: bool, both: bool, s: &BoxType, t: &BoxType) -> bool
-    ensures { IsTrue result ↔ FlowsBack parents.now both (seen gradual (tree_of s.now)) (seen gradual (tree_of t.now)) }
+    ensures { IsTrue result ↔ FlowsBack parents.now both (as_tested gradual (tree_of s.now)) (as_tested gradual (tree_of t.now)) }
 {
     flows(parents, gradual, both, s, t) && (!both || covers(parents, gradual, t, s))
 }

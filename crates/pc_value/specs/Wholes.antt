@@ -1,13 +1,13 @@
--- Whole numbers of the program by their sign.
+-- WholeNumber numbers of the program by their sign.
 use Rattle.std.specs.Prelude.{ℤ, pos, negsuc, if◌then◌else◌, Option, Some, None}
-use Rattle.pc_value.specs.declared.whole.Whole.{Whole}
-use Rattle.pc_value.specs.declared.whole.Whole.TheVariants.{AtLeastZero, BelowZero}
+use Rattle.pc_value.specs.declared.whole.WholeNumber.{WholeNumber}
+use Rattle.pc_value.specs.declared.whole.WholeNumber.TheVariants.{AtLeastZero, BelowZero}
 use Rattle.pc_value.specs.Value.{whole, Cut}
 use Rattle.pc_value.specs.Actions.{Outcome, gives, stops}
 use Rattle.pc_value.specs.Numbers.{fits}
 
 -- the number of a sign and a count: up from 0, or down from -1
-abbrev pub whole_of : Whole → ℤ
+abbrev pub whole_of : WholeNumber → ℤ
 whole_of (AtLeastZero n) = pos n
 whole_of (BelowZero n) = negsuc n
 

@@ -5,7 +5,7 @@ ghost use Rattle.pc_value.specs.Meaning.{value_of, entry_of, slot_of, cell_of, h
 ghost use Rattle.pc_value.specs.Value.{whole, list_cell, instance_cell, seen};
 ghost use Rattle.pc_value.specs.Actions.{gives};
 ghost use Rattle.pc_value.specs.Seeing.{seen_of};
-ghost use Rattle.pc_value.specs.Internal.DisplayFaults.{fault_of};
+ghost use Rattle.pc_value.specs.Internal.DisplayFaults.{stop_of_key_fault};
 ghost use Rattle.pc_value.specs.Doing.{outcome_of, action_of, written_number, ComesTo};
 ghost use Rattle.pc_value.specs.Attributes.{store_attribute_outcome};
 ghost use Rattle.pc_value.specs.Internal.Changes.{stored_at, stored_key, heap_changed, sets_key};
@@ -183,7 +183,7 @@ enum KeyFault {
 
 /// Returns the fault of one key of a dict display, if it has one.
 fn key_fault(key: Seen<'_>) -> Option<KeyFault>
-    ensures { fault_of result ≡ key_fault (seen_of key.entry) }
+    ensures { stop_of_key_fault result ≡ key_fault (seen_of key.entry) }
 {
     match key {
         Seen::Number(_) => None,
@@ -196,7 +196,7 @@ fn key_fault(key: Seen<'_>) -> Option<KeyFault>
 
 /// Returns the fault of the first unusable key of a dict display, if there is one.
 fn first_key_fault(heap: &Heap, entries: &[DictEntry]) -> Option<KeyFault>
-    ensures { fault_of result ≡ first_key_fault (heap_of heap.now) (map entry_of entries.now) }
+    ensures { stop_of_key_fault result ≡ first_key_fault (heap_of heap.now) (map entry_of entries.now) }
 {
     for entry in entries {
         let fault = key_fault(see(heap, &entry.key));

@@ -17,7 +17,7 @@ use crate::operators::truth;
 use crate::seen::Seen;
 use crate::text::same_characters;
 use crate::value::{DictEntry, Value};
-use crate::whole::Whole;
+use crate::whole::WholeNumber;
 use pc_source::OutOfMemory;
 use std::alloc::Global;
 
@@ -126,15 +126,15 @@ pub fn get(alloc: Global, object: Seen<'_>, key: Seen<'_>) -> Result<Outcome, Ou
 pub fn index_among(count: usize, index: i128) -> Option<usize>
     ensures { result ≡ index_among count index }
 {
-    match Whole::of(index) {
-        Whole::AtLeastZero(i) => {
+    match WholeNumber::of(index) {
+        WholeNumber::AtLeastZero(i) => {
             if i < count as u128 {
                 Some(i as usize)
             } else {
                 None
             }
         }
-        Whole::BelowZero(i) => {
+        WholeNumber::BelowZero(i) => {
             if i < count as u128 {
                 Some(count - 1 - i as usize)
             } else {

@@ -16,7 +16,9 @@ ghost use Rattle.pc_value.specs.Operators.{is_comparison_free, is_text_free, tex
 use crate::action::{Exception, Outcome};
 use crate::containers::contains_key;
 use crate::seen::Seen;
-use crate::text::{ascii_text, joined, occurs_in, same_characters, text_below, text_of_number};
+use crate::text::{
+    ascii_text, concatenated, occurs_in, same_characters, text_below, text_of_number,
+};
 use crate::value::{Value, copy_text};
 use crate::whole::{difference, floor_div, floor_mod, negated, product, sum};
 use pc_source::OutOfMemory;
@@ -39,7 +41,9 @@ fn sum_of(alloc: Global, left: Seen<'_>, right: Seen<'_>) -> Result<Outcome, Out
 {
     match (left, right) {
         (Seen::Number(x), Seen::Number(y)) => Ok(made(sum(x, y))),
-        (Seen::Text(s), Seen::Text(t)) => Ok(Outcome::Gives(Value::Str(joined(alloc, s, t)?))),
+        (Seen::Text(s), Seen::Text(t)) => Ok(Outcome::Gives(Value::Str(concatenated(
+            alloc, s, t,
+        )?))),
         (Seen::List(_, _), Seen::List(_, _)) => Ok(Outcome::Outside),
         (Seen::Tuple(_), Seen::Tuple(_)) => Ok(Outcome::Outside),
         _ => Ok(Outcome::Raised(Exception::TypeError)),

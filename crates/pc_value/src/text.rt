@@ -41,7 +41,7 @@ pub fn occurs_in(part: &[char], whole: &[char]) -> bool
 }
 
 /// Returns `left` followed by `right`.
-pub fn joined(alloc: Global, left: &[char], right: &[char]) -> Result<Vec<char>, OutOfMemory>
+pub fn concatenated(alloc: Global, left: &[char], right: &[char]) -> Result<Vec<char>, OutOfMemory>
     ensures { IfOk result (λ cs. cs.items ≡ left.now ++ right.now) }
 {
     let mut whole = Vec::from_slice(alloc, left)?;

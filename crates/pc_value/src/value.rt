@@ -75,10 +75,7 @@ pub fn copy_values(alloc: Global, values: &[Value]) -> Result<Vec<Value>, OutOfM
     let mut copied = Vec::new(alloc);
     for value in values {
         let v = value.copy(alloc)?;
-        match copied.push(v) {
-            Ok(()) => {}
-            Err(_) => return Err(OutOfMemory),
-        }
+        copied.push(v)?;
     }
     Ok(copied)
 }
@@ -87,10 +84,7 @@ pub fn copy_values(alloc: Global, values: &[Value]) -> Result<Vec<Value>, OutOfM
 pub fn copy_text(alloc: Global, characters: &[char]) -> Result<Vec<char>, OutOfMemory>
     ensures { IfOk result (λ cs. cs.items ≡ characters.now) }
 {
-    match Vec::from_slice(alloc, characters) {
-        Ok(copied) => Ok(copied),
-        Err(_) => Err(OutOfMemory),
-    }
+    Ok(Vec::from_slice(alloc, characters)?)
 }
 
 /// Copies fields.

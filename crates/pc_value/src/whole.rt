@@ -8,20 +8,20 @@ ghost use Rattle.pc_value.specs.Doing.{written_number};
 
 /// A whole number by its sign: `n`, or `-1 - n`.
 #[derive(Clone, Copy)]
-pub enum Whole {
+pub enum WholeNumber {
     AtLeastZero(u128),
     BelowZero(u128),
 }
 
-impl Whole {
+impl WholeNumber {
     /// Returns a number of 128 signed bits by its sign.
-    pub fn of(n: i128) -> Whole
+    pub fn of(n: i128) -> WholeNumber
         ensures { whole_of result ≡ n }
     {
         if n >= 0 {
-            Whole::AtLeastZero(n.unsigned_abs())
+            WholeNumber::AtLeastZero(n.unsigned_abs())
         } else {
-            Whole::BelowZero(n.unsigned_abs() - 1)
+            WholeNumber::BelowZero(n.unsigned_abs() - 1)
         }
     }
 
@@ -30,8 +30,8 @@ impl Whole {
         ensures { result ≡ if_it_fits (whole_of self) }
     {
         match self {
-            Whole::AtLeastZero(n) => { if n < 1 << 127 { Some(n as i128) } else { None } }
-            Whole::BelowZero(n) => {
+            WholeNumber::AtLeastZero(n) => { if n < 1 << 127 { Some(n as i128) } else { None } }
+            WholeNumber::BelowZero(n) => {
                 if n < 1 << 127 {
                     Some(-1 - n as i128)
                 } else {
@@ -68,42 +68,42 @@ pub fn read_number(below_zero: bool, digits: &[u8]) -> Option<i128>
     let number = read_digits(digits)?;
     if below_zero && number > 0 {
         // Kept as one less than its distance from zero, so that the least number has a form too.
-        Whole::BelowZero(number - 1).fit()
+        WholeNumber::BelowZero(number - 1).fit()
     } else {
-        Whole::AtLeastZero(number).fit()
+        WholeNumber::AtLeastZero(number).fit()
     }
 }
 
 /// Returns the floor quotient of a whole number by a positive divisor.
-fn div_by(number: Whole, divisor: u128) -> Whole
+fn div_by(number: WholeNumber, divisor: u128) -> WholeNumber
     requires { 0 < divisor }
     ensures { whole_of result ≡ floor_div_by (whole_of number) divisor }
 {
     match number {
-        Whole::AtLeastZero(n) => Whole::AtLeastZero(n / divisor),
-        Whole::BelowZero(n) => Whole::BelowZero(n / divisor),
+        WholeNumber::AtLeastZero(n) => WholeNumber::AtLeastZero(n / divisor),
+        WholeNumber::BelowZero(n) => WholeNumber::BelowZero(n / divisor),
     }
 }
 
 /// Returns the remainder of floor division by a positive divisor.
-fn mod_by(number: Whole, divisor: u128) -> u128
+fn mod_by(number: WholeNumber, divisor: u128) -> u128
     requires { 0 < divisor }
     ensures { pos result ≡ floor_mod_by (whole_of number) divisor }
 {
     match number {
-        Whole::AtLeastZero(n) => n % divisor,
-        Whole::BelowZero(n) => divisor - 1 - n % divisor,
+        WholeNumber::AtLeastZero(n) => n % divisor,
+        WholeNumber::BelowZero(n) => divisor - 1 - n % divisor,
     }
 }
 
 /// Returns the negated number, by its sign.
-fn opposite(number: i128) -> Whole
+fn opposite(number: i128) -> WholeNumber
     ensures { whole_of result ≡ neg_ℤ number }
 {
     if number <= 0 {
-        Whole::AtLeastZero(number.unsigned_abs())
+        WholeNumber::AtLeastZero(number.unsigned_abs())
     } else {
-        Whole::BelowZero(number.unsigned_abs() - 1)
+        WholeNumber::BelowZero(number.unsigned_abs() - 1)
     }
 }
 
@@ -114,7 +114,7 @@ pub fn floor_div(number: i128, divisor: i128) -> Option<i128>
     ensures { result ≡ if_it_fits (floor_div number divisor) }
 {
     if divisor > 0 {
-        div_by(Whole::of(number), divisor.unsigned_abs()).fit()
+        div_by(WholeNumber::of(number), divisor.unsigned_abs()).fit()
     } else {
         div_by(opposite(number), divisor.unsigned_abs()).fit()
     }
@@ -127,13 +127,13 @@ pub fn floor_mod(number: i128, divisor: i128) -> Option<i128>
     ensures { result ≡ if_it_fits (floor_mod number divisor) }
 {
     if divisor > 0 {
-        Whole::AtLeastZero(mod_by(Whole::of(number), divisor.unsigned_abs())).fit()
+        WholeNumber::AtLeastZero(mod_by(WholeNumber::of(number), divisor.unsigned_abs())).fit()
     } else {
         let left = mod_by(opposite(number), divisor.unsigned_abs());
         if left == 0 {
-            Whole::AtLeastZero(0).fit()
+            WholeNumber::AtLeastZero(0).fit()
         } else {
-            Whole::BelowZero(left - 1).fit()
+            WholeNumber::BelowZero(left - 1).fit()
         }
     }
 }

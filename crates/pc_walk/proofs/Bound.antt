@@ -30,8 +30,8 @@ use Rattle.pc_rules.proofs.Flowing.{one_flow}
 use Rattle.pc_rules.proofs.Once.{once_early}
 use Rattle.pc_flow.specs.WellFormed.{IsWellFormedIfAny}
 use Rattle.pc_module_rules.specs.Statements.{only_code}
-use Rattle.pc_module_rules.specs.Computed.Statements.{BodyContext, Table, BindingResult, with_declared, known_declared}
-use Rattle.pc_module_rules.specs.Computed.Statements.{at, bound_type, bound_name, bind_label, bind_value, bind_item}
+use Rattle.pc_module_rules.specs.Computed.Statements.{BodyContext, DeclaredTypes, BindingResult, with_declared, known_declared}
+use Rattle.pc_module_rules.specs.Computed.Statements.{standing_here, bound_type, bound_name, bind_label, bind_value, bind_item}
 use Rattle.pc_module_rules.specs.Computed.Statements.{declared_alone, annotation_finds}
 use Rattle.pc_walk.specs.StatementsHeld.{HoldsType, HoldsTypeIfAny, HoldsTypes, GivesTypes, GivesBound, bound_with}
 use Rattle.pc_walk.specs.AnnotatedNames.{annotation_unless, declared_by}
@@ -65,12 +65,12 @@ flow_found tree bases p l m into code old new e ec en =
     ∙ (λ i. flow_then p [] (types i) (tree into) (codes i) (λ cs. [])))
 
 -- a local bound to a value of which this is expected
-abbrev bind_known : BodyContext → Table → Env → ℕ → (want : Option Tree) → Expr → List Note → BindingResult
+abbrev bind_known : BodyContext → DeclaredTypes → Env → ℕ → (want : Option Tree) → Expr → List Note → BindingResult
 bind_known context table env x want e found = bind_label context table env x want (place_of e)
-    (label_in (at context table env) want e) (found ++ finds_in (at context table env) want e)
+    (label_in (standing_here context table env) want e) (found ++ finds_in (standing_here context table env) want e)
 
 -- a local bound to a label, by the classes' bases alone
-abbrev bind_over : Bases → Table → Env → ℕ → (want : Option Tree) → Place → Label → List Note → BindingResult
+abbrev bind_over : Bases → DeclaredTypes → Env → ℕ → (want : Option Tree) → Place → Label → List Note → BindingResult
 bind_over bases table env x want p m found =
     let d = unwrap_or want m.type in
     let flows = flows_of bases m (d ∷ []) in
@@ -207,7 +207,7 @@ first_finds context (Some d) n a e = absurd (grind (arith, e))
 first_finds context None n a e = refl
 
 -- an annotation that doesn't count changes nothing of a value that is bound
-pub value_unless : (context : BodyContext) (table : Table) (env : Env) (r : NameMeaning) (t : Tree) (e : Expr)
+pub value_unless : (context : BodyContext) (table : DeclaredTypes) (env : Env) (r : NameMeaning) (t : Tree) (e : Expr)
     (found : List Note) → bind_value context table env r (annotation_unless (bound_name context table r) t) e found
     ≡ bind_value context table env r (Some t) e found
 value_unless context table env (res.Local x) t e found = go (bound_type table x)
@@ -224,9 +224,9 @@ value_unless context table env res.None t e found = refl
 
 -- ---- names that are no locals
 
-pub value_elsewhere : (context : BodyContext) (table : Table) (env : Env) (r : NameMeaning) (a : Option Tree) (e : Expr)
+pub value_elsewhere : (context : BodyContext) (table : DeclaredTypes) (env : Env) (r : NameMeaning) (a : Option Tree) (e : Expr)
     (found : List Note) → ((x : ℕ) → r ≡ res.Local x → ⊥) → bind_value context table env r a e found
-    ≡ record { table = table; env = env; found = found ++ finds_in (at context table env) None e }
+    ≡ record { table = table; env = env; found = found ++ finds_in (standing_here context table env) None e }
 value_elsewhere context table env (res.Local x) a e found h = absurd (h x refl)
 value_elsewhere context table env (res.Const i) a e found h = refl
 value_elsewhere context table env (res.Func i) a e found h = refl
@@ -235,7 +235,7 @@ value_elsewhere context table env (res.Builtin b) a e found h = refl
 value_elsewhere context table env res.None a e found h = refl
 
 -- likewise the target of a `for`
-pub item_elsewhere : (context : BodyContext) (table : Table) (head : Env) (r : NameMeaning) (p : Place) (t : Tree)
+pub item_elsewhere : (context : BodyContext) (table : DeclaredTypes) (head : Env) (r : NameMeaning) (p : Place) (t : Tree)
     (found : List Note)
     → ((x : ℕ) → r ≡ res.Local x → ⊥)
     → bind_item context table head r p t found ≡ record { table = table; env = head; found = found }

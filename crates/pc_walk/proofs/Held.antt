@@ -22,8 +22,9 @@ use Rattle.pc_rules.specs.Computed.Standing.{Standing, HasIfAny, HasSignature, M
 use Rattle.pc_rules.proofs.ComputedLawful.{labels_are_lawful}
 use Rattle.pc_rules.specs.declared.expr_context.Signature.{Signature as RustSignature}
 use Rattle.pc_rules.specs.declared.label.Label.{Label as RustLabel}
+use Rattle.pc_rules.specs.Computed.ModuleParents.{class_parents}
 use Rattle.pc_walk.specs.declared.context.BodyContext.{BodyContext as RustBodyContext}
-use Rattle.pc_module_rules.specs.Computed.Statements.{Table, type_table}
+use Rattle.pc_module_rules.specs.Computed.Statements.{DeclaredTypes, type_table}
 use Rattle.pc_walk.specs.StatementsHeld.{HoldsType, HoldsTypeIfAny, HoldsTypes, HoldsTypesIfAny, HoldsContext}
 use Rattle.pc_walk.specs.StatementsHeld.{GivesLabel, GivesTypes}
 
@@ -38,7 +39,7 @@ one_well_formed : (bases : Bases) (t : Option Tree) → IsWellFormedIfAny bases 
 one_well_formed bases None h = (tt, tt, omega arith)
 one_well_formed bases (Some t) h = h
 
-pub table_well_formed : (bases : Bases) (table : Table) → IsWellFormedEnv bases table
+pub table_well_formed : (bases : Bases) (table : DeclaredTypes) → IsWellFormedEnv bases table
     → AreWellFormed bases (type_table table)
 table_well_formed bases [] h = tt
 table_well_formed bases (t ∷ ts) h = (one_well_formed bases t h.0, table_well_formed bases ts h.1)
@@ -131,7 +132,7 @@ module _ {Store Ty : Type 0} (has : Store → Ty → Type 0) (a b : Store) (k : 
     functions = All-weaker (HasSignature (has a)) (HasSignature (has b)) signature_kept f.globals.now.functions.now
         h.functions;
     constants = All-weaker (has a) (has b) k f.globals.now.constants.now h.constants;
-    returned = type_kept has tree f.globals.now.outline.now.parents.now a b k f.returned.now h.returned;
+    returned = type_kept has tree (class_parents f.globals.now) a b k f.returned.now h.returned;
     context = h.context;
     scopes = h.scopes;
   }

@@ -13,17 +13,17 @@ use Rattle.pc_flow.specs.Environment.{Env, current}
 use Rattle.pc_flow.specs.Stored.{env_of, HasOne, HasEach}
 use Rattle.pc_flow.proofs.Assigned.{at_local, local_current}
 use Rattle.pc_notes.specs.Notes.{Note, notes_of, named}
-use Rattle.pc_module_rules.specs.Computed.Statements.{BodyContext, Table, BindingResult, bound_type, local_note}
+use Rattle.pc_module_rules.specs.Computed.Statements.{BodyContext, DeclaredTypes, BindingResult, bound_type, local_note}
 use Rattle.pc_module_rules.specs.Computed.Statements.{name_note}
 use Rattle.pc_module_rules.specs.Computed.Statements.{notes_after, noted_binding}
 use Rattle.pc_walk.specs.declared.context.BodyContext.{BodyContext as RustBodyContext}
 use Rattle.pc_walk.specs.StatementsHeld.{bound_with}
 use Rattle.pc_walk.specs.declared.walk.Walk.{Walk}
-use Rattle.pc_walk.specs.Walks.{WalkKept, Bound, body_context_in}
+use Rattle.pc_walk.specs.Walks.{WalkKept, BindsName, body_context_in}
 use Rattle.pc_walk.proofs.Walks.{stands_on}
 
 -- the note after a binding is that of the binding with its note
-noted_after : (keeps valued : Test) (table : Table) (env : Env) (r : NameMeaning) (p : Place) (found : List Note)
+noted_after : (keeps valued : Test) (table : DeclaredTypes) (env : Env) (r : NameMeaning) (p : Place) (found : List Note)
     → record { table = table; env = env; found = notes_after keeps valued table env r p found }
     ≡ noted_binding keeps valued r p (record { table = table; env = env; found = found })
 noted_after false valued table env r p found = refl
@@ -31,13 +31,13 @@ noted_after true valued table env r p found = refl
 
 module _ {Store Ty : Type 0} (S : StoreOf Store Ty) (old mid new : Walk Store Ty) where
   -- the result of a binding and of the note of its name
-  pub bound_noted : (env behind : List (Option Ty)) (binds : BodyContext → Table → Env → List Note → BindingResult)
+  pub bound_noted : (env behind : List (Option Ty)) (binds : BodyContext → DeclaredTypes → Env → List Note → BindingResult)
       (valued : Test) (r : NameMeaning) (p : Place) → WalkKept S old mid → WalkKept S mid new
-      → Bound S old env mid behind binds
+      → BindsName S old env mid behind binds
       → notes_of new.found.now ≡ notes_after mid.context.globals.now.keeps valued (env_of S.tree mid.declared.now)
       (env_of S.tree behind) r p (notes_of mid.found.now)
       → new.declared.now ≡ mid.declared.now
-      → Bound S old env new behind (λ f t k ns. noted_binding f.keeps valued r p (binds f t k ns))
+      → BindsName S old env new behind (λ f t k ns. noted_binding f.keeps valued r p (binds f t k ns))
   bound_noted env behind binds valued r p g h b noted declared =
       let E = env_of S.tree behind in
       let T = env_of S.tree mid.declared.now in
@@ -53,17 +53,17 @@ module _ {Store Ty : Type 0} (S : StoreOf Store Ty) (old mid new : Walk Store Ty
 -- ---- the note by itself
 
 -- where types are not kept
-pub unkept : (keeps : Test) → keeps ≡ false → (valued : Test) (table : Table) (env : Env) (r : NameMeaning) (p : Place)
+pub unkept : (keeps : Test) → keeps ≡ false → (valued : Test) (table : DeclaredTypes) (env : Env) (r : NameMeaning) (p : Place)
     (found : List Note) → found ≡ notes_after keeps valued table env r p found
 unkept false e valued table env r p found = refl
 unkept true e valued table env r p found = absurd (cc e)
 
-kept : (keeps : Test) → keeps ≡ true → (valued : Test) (table : Table) (env : Env) (r : NameMeaning) (p : Place)
+kept : (keeps : Test) → keeps ≡ true → (valued : Test) (table : DeclaredTypes) (env : Env) (r : NameMeaning) (p : Place)
     (found : List Note) → found ++ name_note valued table env r p ≡ notes_after keeps valued table env r p found
 kept true e valued table env r p found = refl
 kept false e valued table env r p found = absurd (cc e)
 
-no_local : (valued : Test) (table : Table) (env : Env) (r : NameMeaning) (p : Place) → ((x : ℕ) → r ≡ res.Local x → ⊥)
+no_local : (valued : Test) (table : DeclaredTypes) (env : Env) (r : NameMeaning) (p : Place) → ((x : ℕ) → r ≡ res.Local x → ⊥)
     → name_note valued table env r p ≡ []
 no_local valued table env (res.Local x) p h = absurd (h x refl)
 no_local valued table env (res.Const i) p h = refl
@@ -73,14 +73,14 @@ no_local valued table env (res.Builtin b) p h = refl
 no_local valued table env res.None p h = refl
 
 -- of a name that means no local
-pub no_note : (keeps : Test) → keeps ≡ true → (valued : Test) (table : Table) (env : Env) (r : NameMeaning) (p : Place)
+pub no_note : (keeps : Test) → keeps ≡ true → (valued : Test) (table : DeclaredTypes) (env : Env) (r : NameMeaning) (p : Place)
     (found : List Note) → ((x : ℕ) → r ≡ res.Local x → ⊥) → found ≡ notes_after keeps valued table env r p found
 no_note keeps e valued table env r p found h =
     sym (append-nil found) ∙ ap (λ (l : List Note). found ++ l) (sym (no_local valued table env r p h))
     ∙ kept keeps e valued table env r p found
 
 -- of a local
-pub local_noted : (keeps : Test) → keeps ≡ true → (valued : Test) (table : Table) (env : Env) (r : NameMeaning) (x : ℕ)
+pub local_noted : (keeps : Test) → keeps ≡ true → (valued : Test) (table : DeclaredTypes) (env : Env) (r : NameMeaning) (x : ℕ)
     (p : Place) (found : List Note) → r ≡ res.Local x
     → found ++ local_note (bound_type table x) (if valued then current env x else None) p
     ≡ notes_after keeps valued table env r p found

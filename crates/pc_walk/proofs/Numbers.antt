@@ -7,7 +7,7 @@ use Rattle.pc_scope.specs.declared.resolution.NameMeaning.{NameMeaning}
 use Rattle.pc_scope.specs.declared.resolution.NameMeaning.TheVariants as res
 use Rattle.pc_flow.specs.Narrowing.{as_local}
 use Rattle.pc_module_rules.specs.Statements.{binds_number, is_local_number}
-use Rattle.pc_module_rules.specs.Computed.Statements.{BodyContext, Table, unreached_name, unreached_names}
+use Rattle.pc_module_rules.specs.Computed.Statements.{BodyContext, DeclaredTypes, unreached_name, unreached_names}
 use Rattle.pc_walk.specs.Touched.{numbers_of}
 use Rattle.pc_walk.specs.Internal.BoundNames.{unreached_numbers}
 
@@ -28,12 +28,12 @@ numbers_bind resolve (n ∷ ns) x = go (resolve n.text) ∙ ap (λ b. is_local_n
     go res.None = refl
 
 -- locals that no run binds, by their numbers
-pub unreached_by : (context : BodyContext) (table : Table) (names : List Name)
+pub unreached_by : (context : BodyContext) (table : DeclaredTypes) (names : List Name)
     → unreached_numbers table (numbers_of context.context.resolve names) ≡ unreached_names context table names
 unreached_by context table [] = refl
 unreached_by context table (n ∷ ns) = go (context.context.resolve n.text) (λ t. unreached_by context t ns)
   where
-    go : (r : NameMeaning) → ((t : Table) → unreached_numbers t (numbers_of context.context.resolve ns) ≡ unreached_names
+    go : (r : NameMeaning) → ((t : DeclaredTypes) → unreached_numbers t (numbers_of context.context.resolve ns) ≡ unreached_names
         context t ns) → unreached_numbers table (cons_option (as_local r) (numbers_of context.context.resolve ns))
         ≡ unreached_names context (unreached_name context table r) ns
     go (res.Local y) h = h (unreached_name context table (res.Local y))

@@ -24,9 +24,9 @@ use Rattle.pc_rules.specs.Computed.Standing.{label_in, finds_in}
 use Rattle.pc_annotations.specs.Annotations.{read_ann}
 use Rattle.pc_module_rules.specs.Statements.{binds_number, is_local_number}
 use Rattle.pc_rules.specs.Computed.Findings.{codes_at}
-use Rattle.pc_module_rules.specs.Computed.Statements.{BodyContext, Table, type_table, bound_type, with_declared}
+use Rattle.pc_module_rules.specs.Computed.Statements.{BodyContext, DeclaredTypes, type_table, bound_type, with_declared}
 use Rattle.pc_module_rules.specs.Computed.Statements.{known_declared, Walk, BindingResult, BranchesResult}
-use Rattle.pc_module_rules.specs.Computed.Statements.{join_onto_way, with_way, at, narrowed_at, unreached_name}
+use Rattle.pc_module_rules.specs.Computed.Statements.{join_onto_way, with_way, standing_here, narrowed_at, unreached_name}
 use Rattle.pc_module_rules.specs.Computed.Statements.{unreached_names, bind_label, bind_value, declared_alone}
 use Rattle.pc_module_rules.specs.Computed.Statements.{annotation_finds, bound_name, assign_target}
 use Rattle.pc_module_rules.specs.Computed.Statements.{bind_item, head_at, item_label_of, step, walk_suite}
@@ -41,7 +41,7 @@ use Rattle.pc_walk.proofs.KeptLocals.{narrow_kept}
 
 -- ---- tables stay as long
 
-types_long : (table : Table) → length (type_table table) ≡ length table
+types_long : (table : DeclaredTypes) → length (type_table table) ≡ length table
 types_long table = length-map table (λ o. unwrap_or o Any)
 
 declared_long : {A : Type 0} (o : Option A) (table : List (Option A)) (x : ℕ) (t : A)
@@ -50,7 +50,7 @@ declared_long (Some d) table x t = refl
 declared_long None table x t = length-set table x (Some t)
 
 module _ (context : BodyContext) where
-  unreached_long_at : (table : Table) (r : NameMeaning) → length (unreached_name context table r) ≡ length table
+  unreached_long_at : (table : DeclaredTypes) (r : NameMeaning) → length (unreached_name context table r) ≡ length table
   unreached_long_at table (res.Local x) = declared_long (bound_type table x) table x Any
   unreached_long_at table (res.Const i) = refl
   unreached_long_at table (res.Func i) = refl
@@ -58,12 +58,12 @@ module _ (context : BodyContext) where
   unreached_long_at table (res.Builtin b) = refl
   unreached_long_at table res.None = refl
 
-  unreached_long : (table : Table) (names : List Name) → length (unreached_names context table names) ≡ length table
+  unreached_long : (table : DeclaredTypes) (names : List Name) → length (unreached_names context table names) ≡ length table
   unreached_long table [] = refl
   unreached_long table (n ∷ ns) = unreached_long (unreached_name context table (context.context.resolve n.text)) ns
       ∙ unreached_long_at table (context.context.resolve n.text)
 
-  alone_long : (table : Table) (r : NameMeaning) (t : Tree) → length (declared_alone context table r t) ≡ length table
+  alone_long : (table : DeclaredTypes) (r : NameMeaning) (t : Tree) → length (declared_alone context table r t) ≡ length table
   alone_long table (res.Local x) t = declared_long (bound_type table x) table x t
   alone_long table (res.Const i) t = refl
   alone_long table (res.Func i) t = refl
@@ -117,31 +117,31 @@ module _ (context : BodyContext) (Kind : ℕ → Type 0) (base : Env) (fine : (x
 
   -- ---- conditions, heads of loops, and ways that meet
 
-  here_types : (table : Table) → length table ≡ length base → length (type_table table) ≡ length base
+  here_types : (table : DeclaredTypes) → length table ≡ length base → length (type_table table) ≡ length base
   here_types table l = types_long table ∙ l
 
-  pub narrowed_here : (table : Table) (holds : Test) (c : Expr) (env : Env) → length table ≡ length base
+  pub narrowed_here : (table : DeclaredTypes) (holds : Test) (c : Expr) (env : Env) → length table ≡ length base
       → AreApart Kind base (tested_locals context.context.resolve c) → Here env
       → Here (narrowed_at context table holds c env)
   narrowed_here table holds c env l a h = narrow_kept Kind base context.context.bases (type_table table)
       (here_types table l) fine context.context.resolve holds c env a h
 
-  pub head_here : (table : Table) (names : List Name) (env : Env) → length table ≡ length base → NamesApart names
+  pub head_here : (table : DeclaredTypes) (names : List Name) (env : Env) → length table ≡ length base → NamesApart names
       → Here env → Here (head_at context table names env)
   head_here table names env l n h = head_kept Kind base (binds_number context.context.resolve names) (type_table table)
       env (here_types table l) (λ x k. binds_none names x k n) h
 
-  join_here : (table : Table) (a b : Env) → length table ≡ length base → Here a → Here b
+  join_here : (table : DeclaredTypes) (a b : Env) → length table ≡ length base → Here a → Here b
       → Here (join_env context.context.bases (type_table table) a b)
   join_here table a b l h g = joined_kept Kind base context.context.bases (type_table table) (here_types table l) fine a
       b h g
 
-  break_here : (table : Table) (way : Option Env) (env : Env) → length table ≡ length base → HereIfAny way → Here env
+  break_here : (table : DeclaredTypes) (way : Option Env) (env : Env) → length table ≡ length base → HereIfAny way → Here env
       → HereIfAny (join_onto_way context.context.bases table way env)
   break_here table None env l h g = tt
   break_here table (Some way) env l h g = join_here table way env l h g
 
-  pub way_here : (table : Table) (ways out : Option Env) → length table ≡ length base → HereIfAny ways → HereIfAny out
+  pub way_here : (table : DeclaredTypes) (ways out : Option Env) → length table ≡ length base → HereIfAny ways → HereIfAny out
       → HereIfAny (with_way context.context.bases table ways out)
   way_here table ways None l h g = h
   way_here table None (Some env) l h g = g
@@ -153,7 +153,7 @@ module _ (context : BodyContext) (Kind : ℕ → Type 0) (base : Env) (fine : (x
     pub long : length b.table ≡ length base
     pub env_here : IsKept Kind base b.env
 
-  label_here : (table : Table) (env : Env) (x : ℕ) (want : Option Tree) (p : Place) (m : Label) (found : List Note)
+  label_here : (table : DeclaredTypes) (env : Env) (x : ℕ) (want : Option Tree) (p : Place) (m : Label) (found : List Note)
       → length table ≡ length base → (Kind x → ⊥) → Here env → BindingHere
       (bind_label context table env x want p m found)
   label_here table env x want p m found l a h = record {
@@ -161,13 +161,13 @@ module _ (context : BodyContext) (Kind : ℕ → Type 0) (base : Env) (fine : (x
     env_here = assigned_kept Kind base env x _ a h;
   }
 
-  value_here : (table : Table) (env : Env) (r : NameMeaning) (annotation : Option Tree) (e : Expr) (found : List Note)
+  value_here : (table : DeclaredTypes) (env : Env) (r : NameMeaning) (annotation : Option Tree) (e : Expr) (found : List Note)
       → length table ≡ length base → MeaningApart r [] → Here env
       → BindingHere (bind_value context table env r annotation e found)
   value_here table env (res.Local x) annotation e found l a h =
       label_here table env x (known_declared (bound_type table x) annotation) (place_of e)
-      (label_in (at context table env) (known_declared (bound_type table x) annotation) e)
-      (found ++ finds_in (at context table env) (known_declared (bound_type table x) annotation) e) l a.0 h
+      (label_in (standing_here context table env) (known_declared (bound_type table x) annotation) e)
+      (found ++ finds_in (standing_here context table env) (known_declared (bound_type table x) annotation) e) l a.0 h
   value_here table env (res.Const i) annotation e found l a h = record { long = l; env_here = h }
   value_here table env (res.Func i) annotation e found l a h = record { long = l; env_here = h }
   value_here table env (res.Class i) annotation e found l a h = record { long = l; env_here = h }
@@ -180,7 +180,7 @@ module _ (context : BodyContext) (Kind : ℕ → Type 0) (base : Env) (fine : (x
   noted_here false valued r p b h = h
   noted_here true valued r p b h = record { long = h.long; env_here = h.env_here }
 
-  annotated_here : (table : Table) (env : Env) (n : Name) (a : Ann) (e : Option Expr) (found : List Note)
+  annotated_here : (table : DeclaredTypes) (env : Env) (n : Name) (a : Ann) (e : Option Expr) (found : List Note)
       → length table ≡ length base → NamesApart (n ∷ []) → Here env
       → BindingHere (annotated_binding context table env (context.context.resolve n.text) n a e found)
   annotated_here table env n a None found l m h = record {
@@ -193,7 +193,7 @@ module _ (context : BodyContext) (Kind : ℕ → Type 0) (base : Env) (fine : (x
       (Some (read_ann context.whole context.context.bases a)) e (found ++ annotation_finds context
       (bound_name context table (context.context.resolve n.text)) n a) l m h
 
-  target_here : (table : Table) (env : Env) (t : Target) (e : Expr) (found : List Note) → length table ≡ length base
+  target_here : (table : DeclaredTypes) (env : Env) (t : Target) (e : Expr) (found : List Note) → length table ≡ length base
       → NamesApart (name_of_target t) → Here env → BindingHere (assign_target context table env t e found)
   target_here table env (to_name n) e found l m h =
       let r = context.context.resolve n.text in
@@ -202,7 +202,7 @@ module _ (context : BodyContext) (Kind : ℕ → Type 0) (base : Env) (fine : (x
   target_here table env (to_attribute p o field) e found l m h = record { long = l; env_here = h }
   target_here table env (to_index p o i) e found l m h = record { long = l; env_here = h }
 
-  pub item_here : (table : Table) (head : Env) (r : NameMeaning) (p : Place) (t : Tree) (found : List Note)
+  pub item_here : (table : DeclaredTypes) (head : Env) (r : NameMeaning) (p : Place) (t : Tree) (found : List Note)
       (others : List ℕ)
       → length table ≡ length base → MeaningApart r others → Here head
       → BindingHere (bind_item context table head r p t found)
@@ -232,12 +232,12 @@ module _ (context : BodyContext) (Kind : ℕ → Type 0) (base : Env) (fine : (x
   abbrev TestsApart : List ℕ → Type 0
   TestsApart locals = AreApart Kind base locals
 
-  still : (table : Table) (env broken : Option Env) (found : List Note) → length table ≡ length base → HereIfAny env
+  still : (table : DeclaredTypes) (env broken : Option Env) (found : List Note) → length table ≡ length base → HereIfAny env
       → WalkHere broken (record { table = table; env = env; broken = broken; found = found })
   still table env broken found l h = record { long = l; env_here = h; broken_here = λ k. k }
 
   mutual
-    pub step_here : (table : Table) (env broken : Option Env) (found : List Note) (s : Stmt)
+    pub step_here : (table : DeclaredTypes) (env broken : Option Env) (found : List Note) (s : Stmt)
         → length table ≡ length base → HereIfAny env → NamesApart (bound_by_stmt s)
         → TestsApart (tested_in_stmt context.context.resolve s) → WalkHere broken
         (step context table env broken found s)
@@ -276,7 +276,7 @@ module _ (context : BodyContext) (Kind : ℕ → Type 0) (base : Env) (fine : (x
           env = Some (narrowed_at context table true c head);
           broken =
               Some (narrowed_at context table false c head);
-          found = found ++ finds_in (at context table head) None c;
+          found = found ++ finds_in (standing_here context table head) None c;
         }) b
         l (narrowed_here table true c head l tests.0 k) n tests.1 in
         record {
@@ -289,9 +289,9 @@ module _ (context : BodyContext) (Kind : ℕ → Type 0) (base : Env) (fine : (x
         let head = head_at context table (m ∷ bound_by b) env in
         let k = head_here table (m ∷ bound_by b) env l n h in
         let r = context.context.resolve m.text in
-        let t = (item_label_of context (at context table env) e).type in
-        let before = (found ++ iterable_finds context (at context table env) e) ++ codes_at (place_of e)
-        (item_label_of context (at context table env) e).codes in
+        let t = (item_label_of context (standing_here context table env) e).type in
+        let before = (found ++ iterable_finds context (standing_here context table env) e) ++ codes_at (place_of e)
+        (item_label_of context (standing_here context table env) e).codes in
         let inside = noted_here context.keeps true r m.place (bind_item context table head r (place_of e) t before)
         (item_here table head r (place_of e) t before [] l names.0 k) in
         let body = suite_here _ b inside.long inside.env_here names.1 tests in
@@ -347,7 +347,7 @@ module _ (context : BodyContext) (Kind : ℕ → Type 0) (base : Env) (fine : (x
           env = Some (narrowed_at context f.table true c f.last);
           broken =
               f.broken;
-          found = f.found ++ finds_in (at context f.table f.last) None c;
+          found = f.found ++ finds_in (standing_here context f.table f.last) None c;
         } in
         let body = suite_here start b l (narrowed_here f.table true c f.last l tests.0 h) names.0 later.0 in
         let out = walk_suite context start b in
@@ -412,7 +412,7 @@ none_apart base (x ∷ xs) = (λ k. k, none_apart base xs)
 pub long_kept : (base env : Env) → length env ≡ length base → IsKept (λ x. ⊥) base env
 long_kept base env l = record { long = l; same = λ x k. absurd k }
 
-module _ (context : BodyContext) (table : Table) where
+module _ (context : BodyContext) (table : DeclaredTypes) where
   pub narrowed_long : (holds : Test) (c : Expr) (env : Env) → length env ≡ length table
       → length (narrowed_at context table holds c env) ≡ length table
   narrowed_long holds c env l = (narrowed_here context (λ x. ⊥) table (λ x k. absurd k) table holds c env refl

@@ -8,13 +8,14 @@ use Rattle.pc_flow.proofs.Given.{keeps_both}
 use Rattle.pc_notes.specs.declared.notes.NoteEntry.{NoteEntry}
 use Rattle.pc_notes.specs.Notes.{Note, notes_of}
 use Rattle.pc_rules.specs.Computed.Standing.{Standing}
-use Rattle.pc_module_rules.specs.Computed.Statements.{BodyContext, BindingResult, Table, at}
+use Rattle.pc_rules.specs.Computed.ModuleParents.{class_parents}
+use Rattle.pc_module_rules.specs.Computed.Statements.{BodyContext, BindingResult, DeclaredTypes, standing_here}
 use Rattle.pc_walk.specs.declared.context.BodyContext.{BodyContext as RustBodyContext}
 use Rattle.pc_walk.specs.StatementsHeld.{body_context_with, HoldsContext, HoldsType, HoldsTypeIfAny, HoldsTypes}
 use Rattle.pc_walk.specs.StatementsHeld.{HoldsTypesIfAny}
 use Rattle.pc_walk.specs.declared.walk.Walk.{Walk}
 use Rattle.pc_walk.specs.Walks.{HoldsOne, HoldsWant, HoldsEnv, HoldsWay, IsEnv, WalkKept, IsQuiet, Stands, Found}
-use Rattle.pc_walk.specs.Walks.{Bound, body_context_in, standing_in}
+use Rattle.pc_walk.specs.Walks.{BindsName, body_context_in, standing_in}
 use Rattle.pc_walk.proofs.Held.{type_kept, type_kept_if_any, types_kept, types_kept_if_any, context_kept}
 
 module _ {Store Ty : Type 0} {S : StoreOf Store Ty} where
@@ -57,27 +58,27 @@ module _ {Store Ty : Type 0} (S : StoreOf Store Ty) (old new : Walk Store Ty) wh
   -- a type that the walk held it holds later
   pub one_kept : (ty : Ty) → WalkKept S old new → HoldsOne S old ty → HoldsOne S new ty
   one_kept ty g h = in_body_context (λ (f : RustBodyContext Ty). HoldsType (S.has new.store.now) S.tree
-      f.globals.now.outline.now.parents.now ty) g
-      (type_kept S.has S.tree old.context.globals.now.outline.now.parents.now old.store.now new.store.now g.kept ty h)
+      (class_parents f.globals.now) ty) g
+      (type_kept S.has S.tree (class_parents old.context.globals.now) old.store.now new.store.now g.kept ty h)
 
   -- likewise an environment
   pub env_kept : (env : List (Option Ty)) → WalkKept S old new → HoldsEnv S old env → HoldsEnv S new env
   env_kept env g h = in_body_context (λ (f : RustBodyContext Ty). HoldsTypes (S.has new.store.now) S.tree
-      f.globals.now.outline.now.parents.now env) g
-      (types_kept S.has S.tree old.context.globals.now.outline.now.parents.now old.store.now new.store.now g.kept env h)
+      (class_parents f.globals.now) env) g
+      (types_kept S.has S.tree (class_parents old.context.globals.now) old.store.now new.store.now g.kept env h)
 
   -- likewise one that there may be
   pub way_kept : (way : Option (List (Option Ty))) → WalkKept S old new → HoldsWay S old way → HoldsWay S new way
   way_kept way g h = in_body_context (λ (f : RustBodyContext Ty). HoldsTypesIfAny (S.has new.store.now) S.tree
-      f.globals.now.outline.now.parents.now way) g
-      (types_kept_if_any S.has S.tree old.context.globals.now.outline.now.parents.now old.store.now new.store.now g.kept
+      (class_parents f.globals.now) way) g
+      (types_kept_if_any S.has S.tree (class_parents old.context.globals.now) old.store.now new.store.now g.kept
       way h)
 
   -- likewise a type that there may be
   pub want_kept : (want : Option Ty) → WalkKept S old new → HoldsWant S old want → HoldsWant S new want
   want_kept want g h = in_body_context (λ (f : RustBodyContext Ty). HoldsTypeIfAny (S.has new.store.now) S.tree
-      f.globals.now.outline.now.parents.now want) g
-      (type_kept_if_any S.has S.tree old.context.globals.now.outline.now.parents.now old.store.now new.store.now g.kept
+      (class_parents f.globals.now) want) g
+      (type_kept_if_any S.has S.tree (class_parents old.context.globals.now) old.store.now new.store.now g.kept
       want h)
 
   -- an environment has the same meaning after a step
@@ -113,9 +114,9 @@ module _ {Store Ty : Type 0} (S : StoreOf Store Ty) (old new : Walk Store Ty) wh
       → f (body_context_in S new) (standing_in S new env) ≡ f (body_context_in S old) (standing_in S old env)
   same_standing env f g d =
       ap (λ (x : RustBodyContext Ty). let k = body_context_with S.tree x in
-      f k (at k (env_of S.tree new.declared.now) (env_of S.tree env))) g.context
+      f k (standing_here k (env_of S.tree new.declared.now) (env_of S.tree env))) g.context
       ∙ ap (λ (ds : List (Option Ty)). f (body_context_in S old)
-      (at (body_context_in S old) (env_of S.tree ds) (env_of S.tree env))) d
+      (standing_here (body_context_in S old) (env_of S.tree ds) (env_of S.tree env))) d
 
 -- two steps
 module _ {Store Ty : Type 0} (S : StoreOf Store Ty) (old mid new : Walk Store Ty) where
@@ -153,9 +154,9 @@ module _ {Store Ty : Type 0} (S : StoreOf Store Ty) (old mid new : Walk Store Ty
 
   -- the result of binding a name after a step that found something
   pub bound_then : (env behind : List (Option Ty)) (finds : BodyContext → Standing → List Note)
-      (binds : BodyContext → Table → Env → List Note → BindingResult)
-      → WalkKept S old mid → Found S old env mid finds → Bound S mid env new behind binds
-      → Bound S old env new behind (λ f t k ns. binds f t k (ns ++ finds f (at f t k)))
+      (binds : BodyContext → DeclaredTypes → Env → List Note → BindingResult)
+      → WalkKept S old mid → Found S old env mid finds → BindsName S mid env new behind binds
+      → BindsName S old env new behind (λ f t k ns. binds f t k (ns ++ finds f (standing_here f t k)))
   bound_then env behind finds binds g a b =
       let E = env_of S.tree env in
       record {
@@ -171,9 +172,9 @@ module _ {Store Ty : Type 0} (S : StoreOf Store Ty) (old mid new : Walk Store Ty
 
   -- the result of binding one name and then another
   pub bound_further : (env between behind : List (Option Ty))
-      (first second : BodyContext → Table → Env → List Note → BindingResult)
-      → WalkKept S old mid → Bound S old env mid between first → Bound S mid between new behind second
-      → Bound S old env new behind (λ f t k ns. let b = first f t k ns in second f b.table b.env b.found)
+      (first second : BodyContext → DeclaredTypes → Env → List Note → BindingResult)
+      → WalkKept S old mid → BindsName S old env mid between first → BindsName S mid between new behind second
+      → BindsName S old env new behind (λ f t k ns. let b = first f t k ns in second f b.table b.env b.found)
   bound_further env between behind first second g a b =
       let E = env_of S.tree between in
       let before = second (body_context_in S old) in

@@ -17,6 +17,7 @@ use Rattle.pc_rules.specs.Context.{Context}
 use Rattle.pc_rules.specs.Computed.Standing.{HasSignature, MeansLabel, signature_with}
 use Rattle.pc_rules.specs.Laws.WellFormed.{ContextWellFormed}
 use Rattle.pc_rules.specs.declared.label.Label.{Label as RustLabel}
+use Rattle.pc_rules.specs.Computed.ModuleParents.{class_parents}
 use Rattle.pc_module_rules.specs.Computed.Statements.{BodyContext, BindingResult}
 use Rattle.pc_walk.specs.declared.context.BodyContext.{BodyContext as RustBodyContext}
 
@@ -24,7 +25,7 @@ module _ {Ty : Type 0} (tree : Ty → Tree) where
   -- the context of expressions that a program's body context means
   abbrev pub context_in : RustBodyContext Ty → Context
   context_in f = record {
-    bases = f.globals.now.outline.now.parents.now;
+    bases = class_parents f.globals.now;
     classes = classes_with tree f.globals.now.classes.now;
     functions = map (signature_with tree) f.globals.now.functions.now;
     constants = map tree f.globals.now.constants.now;
@@ -69,7 +70,7 @@ pub record HoldsContext {Ty : Type 0} (has : Ty → Type 0) (tree : Ty → Tree)
   pub classes : HasEntries has f.globals.now.classes.now
   pub functions : All (HasSignature has) f.globals.now.functions.now
   pub constants : All has f.globals.now.constants.now
-  pub returned : HoldsType has tree f.globals.now.outline.now.parents.now f.returned.now
+  pub returned : HoldsType has tree (class_parents f.globals.now) f.returned.now
   pub context : ContextWellFormed (context_in tree f)
   pub scopes : AreScopes (module_of f.globals.now.outline.now.tree.now) f.globals.now.outline.now.scopes.now
 

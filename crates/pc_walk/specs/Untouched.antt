@@ -7,7 +7,7 @@ use Rattle.pc_types.specs.Below.{Bases}
 use Rattle.pc_flow.specs.Environment.{Env}
 use Rattle.pc_flow.specs.WellFormed.{IsWellFormedEnv}
 use Rattle.pc_notes.specs.Notes.{Note}
-use Rattle.pc_module_rules.specs.Computed.Statements.{BodyContext, Table, Walk, walk_suite}
+use Rattle.pc_module_rules.specs.Computed.Statements.{BodyContext, DeclaredTypes, Walk, walk_suite}
 use Rattle.pc_flow.specs.Agreement.{is_among, AgreeOutside, TakesInOutside}
 use Rattle.pc_walk.specs.Touched.{touched_by}
 
@@ -60,7 +60,7 @@ IsAsOutsideIfAny locals base (Some env) = IsAsOutside locals base env
 
 -- a walk from an environment reaches a table of as many locals, and an environment that agrees with it at each local
 -- that is not among these; so does the exit environment of the enclosing loop, if it did before
-pub record KeepsOutside (locals : List ℕ) (table : Table) (env : Env) (broken : Option Env) (w : Walk) : Type 0 where
+pub record KeepsOutside (locals : List ℕ) (table : DeclaredTypes) (env : Env) (broken : Option Env) (w : Walk) : Type 0 where
   pub long : length w.table ≡ length table
   pub behind : IsAsOutsideIfAny locals env w.env
   pub out_of_loop : IsAsOutsideIfAny locals env broken → IsAsOutsideIfAny locals env w.broken
@@ -69,7 +69,7 @@ pub record KeepsOutside (locals : List ℕ) (table : Table) (env : Env) (broken 
 -- each local that the suite does not touch unchanged
 abbrev pub SuitesKeepUntouchedLocals : Type 0
 SuitesKeepUntouchedLocals =
-    (context : BodyContext) (table : Table) (env : Env) (broken : Option Env) (found : List Note) (b : Stmts)
+    (context : BodyContext) (table : DeclaredTypes) (env : Env) (broken : Option Env) (found : List Note) (b : Stmts)
     (locals : List ℕ)
     → length table ≡ length env
     → IsWellFormedEnv context.context.bases env

@@ -19,9 +19,10 @@ ghost use Rattle.pc_module_rules.specs.Computed.Statements.{known_declared, boun
 ghost use Rattle.pc_module_rules.specs.Computed.Statements.{bound_name, bind_label, annotation_finds, notes_after};
 ghost use Rattle.pc_module_rules.specs.Computed.Statements.{local_note};
 ghost use Rattle.pc_flow.specs.Environment.{current};
+ghost use Rattle.pc_rules.specs.Computed.ModuleParents.{class_parents};
 ghost use Rattle.pc_walk.specs.AnnotatedNames.{annotation_unless, declared_by};
 ghost use Rattle.pc_walk.specs.StatementsHeld.{HoldsContext};
-ghost use Rattle.pc_walk.specs.Walks.{Stands, HoldsOne, HoldsWant, WalkKept, Bound, body_context_in};
+ghost use Rattle.pc_walk.specs.Walks.{Stands, HoldsOne, HoldsWant, WalkKept, BindsName, body_context_in};
 
 use crate::flows::find_flow_in;
 use crate::walk::Walk;
@@ -97,7 +98,7 @@ pub fn bind_label<S: TypeStore>(
     requires want { HoldsWant S.TypeStore walk.old want }
     requires label { HoldsOne S.TypeStore walk.old label.now.ty }
     ensures bound { (m : LabelOf) → label_with S.tree label.now ≡ brief m
-        → IfOk result (λ b. Bound S.TypeStore walk.old env walk.new b
+        → IfOk result (λ b. BindsName S.TypeStore walk.old env walk.new b
         (λ f t k. bind_label f t k local (option_map S.tree want) place m)) }
     ensures goes_on { WalkKept S.TypeStore walk.old walk.new }
 {
@@ -190,7 +191,7 @@ pub fn annotated_type<S: TypeStore>(
     ensures typed { IfOk result (λ t. HoldsWant S.TypeStore walk.new t × (option_map S.tree t ≡ annotation_unless
         (bound_name (body_context_in S.TypeStore walk.old) (env_of S.tree walk.old.declared.now) meaning)
         (read_ann (module_of walk.old.context.globals.now.outline.now.tree.now)
-        walk.old.context.globals.now.outline.now.parents.now (ann_of annotation.now)))) }
+        (class_parents walk.old.context.globals.now) (ann_of annotation.now)))) }
     ensures pushed { OnOk result (notes_of walk.new.found.now ≡ notes_of walk.old.found.now
         ++ annotation_finds (body_context_in S.TypeStore walk.old)
         (bound_name (body_context_in S.TypeStore walk.old) (env_of S.tree walk.old.declared.now) meaning)

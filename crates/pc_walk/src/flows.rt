@@ -10,6 +10,7 @@ ghost use Rattle.pc_rules.specs.Context.{is_early};
 ghost use Rattle.pc_rules.specs.Computed.Expressions.{code_unless, flows_of};
 ghost use Rattle.pc_rules.specs.Computed.Findings.{flow_at, flows_at, brief};
 ghost use Rattle.pc_rules.specs.Computed.Standing.{label_with};
+ghost use Rattle.pc_rules.specs.Computed.ModuleParents.{class_parents};
 ghost use Rattle.pc_walk.specs.Walks.{WalkKept};
 
 use crate::walk::Walk;
@@ -31,8 +32,8 @@ pub fn find_flow_in<S: TypeStore>(
     requires label { S.has walk.old.store.now label.now.ty }
     requires into { S.has walk.old.store.now into.now }
     ensures value { IfOk result
-        (λ c. c ≡ code_unless (static_test walk.old.context.globals.now.outline.now.parents.now)
-        (assignable_test walk.old.context.globals.now.outline.now.parents.now)
+        (λ c. c ≡ code_unless (static_test (class_parents walk.old.context.globals.now))
+        (assignable_test (class_parents walk.old.context.globals.now))
         (is_early label.now.codes.items) (S.tree label.now.ty) (S.tree into.now)) }
     ensures found { IfOk result
         (λ c. notes_of walk.new.found.now
@@ -62,7 +63,7 @@ pub fn find_flows_in<S: TypeStore>(
     requires into { All (S.has walk.old.store.now) into.now }
     ensures found { (m : LabelOf) → label_with S.tree label.now ≡ brief m
         → OnOk result (notes_of walk.new.found.now ≡ notes_of walk.old.found.now
-        ++ flows_at place (flows_of walk.old.context.globals.now.outline.now.parents.now m (map S.tree into.now))) }
+        ++ flows_at place (flows_of (class_parents walk.old.context.globals.now) m (map S.tree into.now))) }
     ensures declared { walk.new.declared.now ≡ walk.old.declared.now }
     ensures goes_on { WalkKept S.TypeStore walk.old walk.new }
 {

@@ -28,7 +28,7 @@ fn add_local(locals: &mut Vec<usize>, names: &OwnerNames, name: &Name) -> Result
 
 /// Returns the numbers of the locals that these names mean, in order, with repetitions. Leaves out names that mean no
 /// local.
-pub(crate) fn locals_of(
+pub(crate) fn numbers_of_locals(
     alloc: Global,
     names: &OwnerNames,
     bound: &[&Name],

@@ -8,11 +8,11 @@ ghost use Rattle.pc_tree.specs.Stopping.{bound_by};
 ghost use Rattle.pc_flow.specs.Stored.{env_of};
 ghost use Rattle.pc_module_rules.specs.Computed.Statements.{head_at, bind_item, with_note};
 ghost use Rattle.pc_walk.specs.Touched.{numbers_of};
-ghost use Rattle.pc_walk.specs.Walks.{Stands, HoldsOne, HoldsEnv, IsEnv, IsQuiet, WalkKept, Bound, body_context_in};
+ghost use Rattle.pc_walk.specs.Walks.{Stands, HoldsOne, HoldsEnv, IsEnv, IsQuiet, WalkKept, BindsName, body_context_in};
 ghost use Rattle.pc_flow.specs.Naming.{meanings};
 
 use crate::binding::{bind_label, known_type, note_binding};
-use crate::locals::locals_of;
+use crate::locals::numbers_of_locals;
 use crate::standing::head_in;
 use crate::walk::Walk;
 use pc_flow::Env;
@@ -57,7 +57,7 @@ pub fn while_start<S: TypeStore>(
 {
     let mut bound = Vec::new(walk.alloc);
     add_bound(&mut bound, body)?;
-    let locals = locals_of(walk.alloc, walk.context.names, &bound)?;
+    let locals = numbers_of_locals(walk.alloc, walk.context.names, &bound)?;
     let head = loop_start(walk, env, &locals)?;
     Ok(head)
 }
@@ -81,7 +81,7 @@ pub fn for_start<S: TypeStore>(
     let mut bound = Vec::new(walk.alloc);
     bound.push(target)?;
     add_bound(&mut bound, body)?;
-    let locals = locals_of(walk.alloc, walk.context.names, &bound)?;
+    let locals = numbers_of_locals(walk.alloc, walk.context.names, &bound)?;
     let head = loop_start(walk, env, &locals)?;
     Ok(head)
 }
@@ -98,7 +98,7 @@ fn bind_target<S: TypeStore>(
 ) -> Result<Env<S::Ty>, OutOfMemory>
     requires stands { Stands S.TypeStore walk.old head }
     requires item { HoldsOne S.TypeStore walk.old item }
-    ensures bound { IfOk result (λ b. Bound S.TypeStore walk.old head walk.new b
+    ensures bound { IfOk result (λ b. BindsName S.TypeStore walk.old head walk.new b
         (λ f t k. bind_item f t k meaning place (S.tree item))) }
     ensures goes_on { WalkKept S.TypeStore walk.old walk.new }
 {
@@ -128,7 +128,7 @@ pub fn bind_item<S: TypeStore>(
 ) -> Result<Env<S::Ty>, OutOfMemory>
     requires stands { Stands S.TypeStore walk.old head }
     requires item { HoldsOne S.TypeStore walk.old item }
-    ensures bound { IfOk result (λ b. Bound S.TypeStore walk.old head walk.new b
+    ensures bound { IfOk result (λ b. BindsName S.TypeStore walk.old head walk.new b
         (λ f t k found. with_note f true (f.context.resolve (name_of target.now).text) target.now.place
         (bind_item f t k (f.context.resolve (name_of target.now).text) place (S.tree item) found))) }
     ensures goes_on { WalkKept S.TypeStore walk.old walk.new }

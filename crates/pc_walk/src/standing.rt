@@ -8,6 +8,7 @@ ghost use Rattle.pc_flow.specs.Stored.{env_of};
 ghost use Rattle.pc_module_rules.specs.Computed.Statements.{type_table};
 ghost use Rattle.pc_walk.specs.Walks.{HoldsEnv, IsEnv, IsQuiet, WalkKept};
 ghost use Rattle.pc_flow.specs.Agreement.{is_among, TakesInOutside};
+ghost use Rattle.pc_rules.specs.Computed.ModuleParents.{class_parents};
 
 use crate::walk::Walk;
 use pc_flow::{Declarations, Env, EnvJoin, join_env_onto, loop_head};
@@ -16,7 +17,7 @@ use pc_types::TypeStore;
 
 /// Joins `b` into `a` at `locals`; elsewhere `a` must already subsume `b`. Also returns the locals where a second join
 /// could still change something.
-pub(crate) fn join_onto<S: TypeStore>(
+pub(crate) fn join_at_locals<S: TypeStore>(
     walk: &mut Walk<'_, S>,
     locals: &[usize],
     a: Env<S::Ty>,
@@ -25,12 +26,12 @@ pub(crate) fn join_onto<S: TypeStore>(
     requires declared { HoldsEnv S.TypeStore walk.old walk.old.declared.now }
     requires left { HoldsEnv S.TypeStore walk.old a }
     requires right { HoldsEnv S.TypeStore walk.old b.now }
-    requires taken_in { TakesInOutside walk.old.context.globals.now.outline.now.parents.now locals.now
+    requires taken_in { TakesInOutside (class_parents walk.old.context.globals.now) locals.now
         (env_of S.tree a) (env_of S.tree b.now) }
     ensures joined { IfOk result (λ m. IsEnv S.TypeStore walk.new m.env
-        (join_env walk.old.context.globals.now.outline.now.parents.now
+        (join_env (class_parents walk.old.context.globals.now)
         (type_table (env_of S.tree walk.old.declared.now)) (env_of S.tree a) (env_of S.tree b.now))) }
-    ensures settled { IfOk result (λ m. TakesInOutside walk.old.context.globals.now.outline.now.parents.now
+    ensures settled { IfOk result (λ m. TakesInOutside (class_parents walk.old.context.globals.now)
         m.unsettled.items (env_of S.tree m.env) (env_of S.tree b.now)) }
     ensures quiet { OnOk result (IsQuiet S.TypeStore walk.old walk.new) }
     ensures goes_on { WalkKept S.TypeStore walk.old walk.new }

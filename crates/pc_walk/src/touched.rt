@@ -9,7 +9,7 @@ ghost use Rattle.pc_walk.specs.Touched.{tested_in, tested_in_stmt, tested_in_bra
 ghost use Rattle.pc_walk.specs.Touched.{touched_by_for, touched_by_stmt};
 ghost use Rattle.pc_flow.specs.Naming.{meanings};
 
-use crate::locals::locals_of;
+use crate::locals::numbers_of_locals;
 use pc_flow::{OwnerNames, add_tested};
 use pc_source::OutOfMemory;
 use pc_tree::{Branch, Expr, Name, Stmt, StmtKind, add_bound, add_bound_by, add_bound_in};
@@ -92,7 +92,7 @@ pub(crate) fn add_touched(
 {
     let mut bound = Vec::new(alloc);
     add_bound_by(&mut bound, kind)?;
-    let locals = locals_of(alloc, names, &bound)?;
+    let locals = numbers_of_locals(alloc, names, &bound)?;
     touched.extend_from_slice(&locals)?;
     add_tested_by(names, kind, touched)
 }
@@ -108,7 +108,7 @@ pub(crate) fn each_once(locals: &mut Vec<usize>)
 /// Returns the locals that an `if` with these branches and this suite of `else` touches, sorted, without duplicates:
 /// those bound in its suites, at any depth, and those tested by a condition in it. Every other local is the same after
 /// the `if` as before it. Own rule of the profile.
-pub fn touched_by(
+pub fn touched_by_if(
     alloc: Global,
     names: &OwnerNames,
     branches: &[Branch],
@@ -121,7 +121,7 @@ pub fn touched_by(
     let mut bound = Vec::new(alloc);
     add_bound_in(&mut bound, branches)?;
     add_bound(&mut bound, otherwise)?;
-    let mut locals = locals_of(alloc, names, &bound)?;
+    let mut locals = numbers_of_locals(alloc, names, &bound)?;
     add_tested_in_branches(names, branches, &mut locals)?;
     add_tested_in(names, otherwise, &mut locals)?;
     locals.sort_unstable();
@@ -143,7 +143,7 @@ pub fn touched_by_while(
 {
     let mut bound = Vec::new(alloc);
     add_bound(&mut bound, body)?;
-    let mut locals = locals_of(alloc, names, &bound)?;
+    let mut locals = numbers_of_locals(alloc, names, &bound)?;
     add_tested(names, condition, &mut locals)?;
     add_tested_in(names, body, &mut locals)?;
     locals.sort_unstable();
@@ -166,7 +166,7 @@ pub fn touched_by_for(
     let mut bound = Vec::new(alloc);
     bound.push(target)?;
     add_bound(&mut bound, body)?;
-    let mut locals = locals_of(alloc, names, &bound)?;
+    let mut locals = numbers_of_locals(alloc, names, &bound)?;
     add_tested_in(names, body, &mut locals)?;
     locals.sort_unstable();
     locals.dedup();

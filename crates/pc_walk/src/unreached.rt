@@ -14,7 +14,7 @@ ghost use Rattle.pc_walk.specs.Internal.BoundNames.{unreached_numbers};
 ghost use Rattle.pc_walk.specs.Walks.{HoldsEnv, IsEnv, WalkKept, body_context_in};
 
 use crate::binding::declare;
-use crate::locals::locals_of;
+use crate::locals::numbers_of_locals;
 use crate::walk::Walk;
 use pc_source::OutOfMemory;
 use pc_tree::{StmtKind, add_bound_by};
@@ -61,7 +61,7 @@ pub fn declare_unreached<S: TypeStore>(
 {
     let mut bound = Vec::new(walk.alloc);
     add_bound_by(&mut bound, kind)?;
-    let locals = locals_of(walk.alloc, walk.context.names, &bound)?;
+    let locals = numbers_of_locals(walk.alloc, walk.context.names, &bound)?;
     // No value gets there, so any type is right, but later statements need one.
     declare_each(walk, &locals)?;
     Ok(())

@@ -13,9 +13,10 @@ ghost use Rattle.pc_walk.specs.Touched.{touched_by_stmt};
 ghost use Rattle.pc_flow.specs.Naming.{meanings};
 ghost use Rattle.pc_source.specs.declared.place.Place.{Place as PlaceOf};
 ghost use Rattle.pc_tree.specs.Tree.{stmt_of_kind};
+ghost use Rattle.pc_rules.specs.Computed.ModuleParents.{class_parents};
 ghost use Rattle.pc_walk.specs.Walks.{HoldsEnv, HoldsWay, IsWay, IsQuiet, WalkKept};
 
-use crate::standing::join_onto;
+use crate::standing::join_at_locals;
 use crate::touched::{add_touched, each_once};
 use crate::walk::Walk;
 use pc_flow::Env;
@@ -35,12 +36,12 @@ pub fn break_out<S: TypeStore>(
     requires declared { HoldsEnv S.TypeStore walk.old walk.old.declared.now }
     requires env { HoldsEnv S.TypeStore walk.old env.now }
     requires broken { HoldsWay S.TypeStore walk.old broken.old }
-    requires taken_in { WayTakesIn walk.old.context.globals.now.outline.now.parents.now unsettled.old.items
+    requires taken_in { WayTakesIn (class_parents walk.old.context.globals.now) unsettled.old.items
         (option_map (env_of S.tree) broken.old) (Some (env_of S.tree env.now)) }
     ensures joined { OnOk result (IsWay S.TypeStore walk.new broken.new
-        (join_onto_way walk.old.context.globals.now.outline.now.parents.now
+        (join_onto_way (class_parents walk.old.context.globals.now)
         (env_of S.tree walk.old.declared.now) (option_map (env_of S.tree) broken.old) (env_of S.tree env.now))) }
-    ensures settled { OnOk result (WayTakesIn walk.old.context.globals.now.outline.now.parents.now unsettled.new.items
+    ensures settled { OnOk result (WayTakesIn (class_parents walk.old.context.globals.now) unsettled.new.items
         (option_map (env_of S.tree) broken.new) (Some (env_of S.tree env.now))) }
     ensures quiet { OnOk result (IsQuiet S.TypeStore walk.old walk.new) }
     ensures goes_on { WalkKept S.TypeStore walk.old walk.new }
@@ -49,7 +50,7 @@ pub fn break_out<S: TypeStore>(
         None => Ok(()),
         Some(way) => {
             each_once(unsettled);
-            let joined = join_onto(walk, unsettled, way, env)?;
+            let joined = join_at_locals(walk, unsettled, way, env)?;
             *broken = Some(joined.env);
             *unsettled = joined.unsettled;
             Ok(())
@@ -104,7 +105,7 @@ pub struct IfExits<Ty: Drop> {
 /// Joins `out`, the environment at the end of a suite that touches these locals, into `ways`, the joined ends of the
 /// suites before it, and returns the join; `out` is `None` if the suite cannot complete. Only the touched and the
 /// unsettled locals are joined; elsewhere the suites before must already subsume `out`. Touched locals stay unsettled.
-pub fn meet<S: TypeStore>(
+pub fn join_exit<S: TypeStore>(
     walk: &mut Walk<'_, S>,
     ways: IfExits<S::Ty>,
     touched: Vec<usize>,
@@ -113,17 +114,17 @@ pub fn meet<S: TypeStore>(
     requires declared { HoldsEnv S.TypeStore walk.old walk.old.declared.now }
     requires ways { HoldsWay S.TypeStore walk.old ways.met }
     requires out { HoldsWay S.TypeStore walk.old out }
-    requires taken_in { WayTakesIn walk.old.context.globals.now.outline.now.parents.now
+    requires taken_in { WayTakesIn (class_parents walk.old.context.globals.now)
         (ways.unsettled.items ++ touched.items)
         (option_map (env_of S.tree) ways.met) (option_map (env_of S.tree) out) }
     ensures joined { IfOk result (λ w. IsWay S.TypeStore walk.new w.met
-        (with_way walk.old.context.globals.now.outline.now.parents.now
+        (with_way (class_parents walk.old.context.globals.now)
         (env_of S.tree walk.old.declared.now) (option_map (env_of S.tree) ways.met)
         (option_map (env_of S.tree) out))) }
     ensures settled { (base : EnvOf) → AgreesIfAny touched.items base (option_map (env_of S.tree) out)
-        → TakesInIfAny walk.old.context.globals.now.outline.now.parents.now ways.unsettled.items
+        → TakesInIfAny (class_parents walk.old.context.globals.now) ways.unsettled.items
         (option_map (env_of S.tree) ways.met) base
-        → IfOk result (λ w. TakesInIfAny walk.old.context.globals.now.outline.now.parents.now w.unsettled.items
+        → IfOk result (λ w. TakesInIfAny (class_parents walk.old.context.globals.now) w.unsettled.items
         (option_map (env_of S.tree) w.met) base) }
     ensures touched { (x : ℕ) → is_among touched.items x ≡ true
         → IfOk result (λ w. is_among w.unsettled.items x ≡ true) }
@@ -149,7 +150,7 @@ pub fn meet<S: TypeStore>(
                 let mut locals = unsettled;
                 locals.extend_from_slice(&touched)?;
                 each_once(&mut locals);
-                let joined = join_onto(walk, &locals, way, &out)?;
+                let joined = join_at_locals(walk, &locals, way, &out)?;
                 let mut all = touched;
                 all.extend_from_slice(&joined.unsettled)?;
                 Ok(IfExits {

@@ -13,7 +13,7 @@ use crate::room::copy_into;
 use pc_report::{TypeListing, WriteFault};
 use pc_source::{Counted, OutOfMemory};
 use pc_top::{CheckFault, check, types_of};
-use std::alloc::Global;
+use std::alloc::{AllocError, Global};
 
 /// Writes a listing to a list of bytes, as JSON or as text.
 fn write_listing(
@@ -48,8 +48,8 @@ fn put_listing(
             copy_into(room, bytes.as_slice());
             Ok(bytes.len())
         }
-        // A list of bytes takes what it has memory for
-        Err(_) => Err(OutOfMemory),
+        // A list of bytes takes what it has memory for, so an allocation failed.
+        Err(_) => Err(OutOfMemory::from(AllocError)),
     }
 }
 

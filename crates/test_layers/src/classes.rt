@@ -8,7 +8,7 @@ ghost use Rattle.pc_class.specs.Tables.{HasParameter, HasMethod, HasEntries, cla
 
 use pc_annotations::type_text;
 use pc_class::{ClassTable, Listing, Method, Parameter, class_table};
-use pc_front::module_in;
+use pc_front::parse_source;
 use pc_overrides::override_findings;
 use pc_scope::{Scopes, scopes};
 use pc_source::{Fault, Source, read_source};
@@ -315,7 +315,7 @@ fn reading_in(alloc: Global, source: &Source, tree: &Module) -> Result<String, F
 /// Returns the content of the class table of the module that a text spells, and the findings in its classes.
 fn reading(alloc: Global, text: &str) -> Result<String, Fault> {
     let source = read_source(alloc, text.as_bytes())?;
-    let tree = module_in(alloc, &source)?;
+    let tree = parse_source(alloc, &source)?;
     reading_in(alloc, &source, &tree)
 }
 

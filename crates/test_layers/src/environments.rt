@@ -302,7 +302,7 @@ fn reading(alloc: Global, text: &str, words: &str) -> Result<String, Fault> {
 
 /// Returns the answer to a row in a module that begins with the lines before it. The row has its words, the parameters
 /// that declare its locals, and those assigned on two paths; without the first path the locals are as declared.
-pub fn row_text(alloc: Global, before: &str, row: &str) -> Result<String, Fault> {
+pub fn row_answer(alloc: Global, before: &str, row: &str) -> Result<String, Fault> {
     let (words, rest) = row.split_once(" ; ").unwrap_or((row, ""));
     let (declared, ways) = rest.split_once(" ; ").unwrap_or((rest, rest));
     let (one, other) = ways.split_once(" ; ").unwrap_or((ways, ""));

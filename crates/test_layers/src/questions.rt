@@ -254,7 +254,7 @@ fn make<S: TypeStore>(
 }
 
 /// Returns the text of the type that the store's constructor of this name builds.
-pub fn made<S: TypeStore>(
+pub fn built_type_text<S: TypeStore>(
     store: &mut S,
     alloc: Global,
     tree: &Module,
@@ -293,7 +293,7 @@ fn answer_of_types<S: TypeStore>(
 }
 
 /// Returns the answer of a store about the types of the module's first two constants.
-pub fn answer<S: TypeStore>(
+pub fn store_answer<S: TypeStore>(
     store: &mut S,
     alloc: Global,
     outline: &ModuleOutline,

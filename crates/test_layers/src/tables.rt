@@ -1,6 +1,6 @@
 //! The kinds of tables of the layers.
 use crate::classes::count_classes;
-use crate::environments::row_text;
+use crate::environments::row_answer;
 use crate::modules::module_text;
 use crate::names::{meaning_text, words_text};
 use crate::types::count_types;
@@ -15,7 +15,7 @@ const ROWS: &str = "----\n";
 fn answer(alloc: Global, kind: &str, before: &str, row: &TableRow<'_>) -> Result<String, Fault> {
     let (part, text) = (row.part, row.text.as_str());
     match kind {
-        "environments" => row_text(alloc, before, text),
+        "environments" => row_answer(alloc, before, text),
         "names" => meaning_text(alloc, before, text),
         "questions" => module_text(alloc, part, text),
         "words" => words_text(alloc, part, text),

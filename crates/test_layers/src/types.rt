@@ -1,5 +1,5 @@
 //! Types as annotations spell them, in both stores.
-use crate::questions::{Question, answer, made};
+use crate::questions::{Question, built_type_text, store_answer};
 use pc_annotations::{ModuleOutline, parents_of};
 use pc_front::read_module;
 use pc_intern::InternStore;
@@ -95,8 +95,8 @@ fn answer_in<S: TypeStore>(
         parents: &parents,
     };
     match row.question {
-        Question::Made => Ok(made(store, alloc, module, row.first)?),
-        question => Ok(answer(store, alloc, &outline, question)?),
+        Question::Made => Ok(built_type_text(store, alloc, module, row.first)?),
+        question => Ok(store_answer(store, alloc, &outline, question)?),
     }
 }
 

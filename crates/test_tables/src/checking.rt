@@ -1,5 +1,5 @@
 //! The checker whose reports are compared with the tables.
-use pc_front::module_in;
+use pc_front::parse_source;
 use pc_notes::Notes;
 use pc_scope::scopes;
 use pc_source::{Counted, Source, read_source};
@@ -39,7 +39,7 @@ fn report_by_boxes(alloc: Global, source: &Source, module: &Module) -> Result<Re
 /// Returns the report of the module that bytes spell, with types in boxes.
 fn check_by_boxes(alloc: Global, bytes: &[u8]) -> Result<Report, CheckFault> {
     let source = read_source(alloc, bytes)?;
-    let module = module_in(alloc, &source)?;
+    let module = parse_source(alloc, &source)?;
     report_by_boxes(alloc, &source, &module)
 }
 

@@ -8,24 +8,22 @@ and fields and constructors of definitions, are read with the type that has them
 to a function of its name whose contract cites it, and to a type of its name that one file uses as RustNAME beside it;
 the two are one thing.
 
-pycheck_tools/shared_names.py has two lists. Names under GROUPS may be in so many places, for the reason given there.
-Those under NAMED_ALIKE mean two things, and what has one of them is to have the better name given there.
+The names under GROUPS in pycheck_tools/shared_names.py may be in so many places, for the reason given there.
 
-Prints each name that is in more places than it may be, with these, and each entry of the lists that is wrong or that no
-name needs. Last it says how many names there are, and how many are to have a better one. The exit status is 1 if
-something is wrong, or if there is no name.
+Prints each name that is in more places than it may be, with these, and each entry of the list that is wrong or that no
+name needs. Last it says how many names there are. The exit status is 1 if something is wrong, or if there is no name.
 """
 from __future__ import annotations
 
 import argparse
 import re
 from collections import defaultdict
-from typing import Dict, Iterable, Iterator, List, Mapping, NamedTuple, Set
+from typing import Dict, Iterable, Iterator, List, NamedTuple, Set
 
 from .. import ROOT
 from ..antt_files import Definition, public_in, specs, used_in
 from ..rt_files import Module, modules_of
-from ..shared_names import GROUPS, NAMED_ALIKE, Alike, Group
+from ..shared_names import GROUPS, Group
 
 Places = Dict[str, List[str]]
 # The folder of the types of the program, as files of specs see them
@@ -81,33 +79,27 @@ def found_in_crates() -> Found:
     return Found(places, types, functions, definitions)
 
 
-def faults_of(places: Places, groups: Iterable[Group], alike: Mapping[str, Alike]) -> Iterator[str]:
-    """Yields the names in more or fewer places than they may be in, and the entries of the lists that are wrong."""
+def faults_of(places: Places, groups: Iterable[Group]) -> Iterator[str]:
+    """Yields the names in more or fewer places than they may be in, and the entries of the list that are wrong."""
     shared: Dict[str, int] = {}
     for group in groups:
         yield from (f"{name} is listed twice" for name in group.names if name in shared)
         shared.update(group.names)
-    for name in sorted({*places, *shared, *alike}):
+    for name in sorted({*places, *shared}):
         here = places.get(name, [])
-        renamed = alike[name].others if name in alike else {}
-        left = [place for place in here if place not in renamed]
-        yield from (f"{name} is not at {place}" for place in renamed if place not in here)
-        if renamed and not left:
-            yield f"{name} means two things only where it is to be renamed"
-        if name in shared and (len(left) != shared[name] or shared[name] < 2):
-            yield f"{name} is in {len(left)} places, and {shared[name]} are listed: {', '.join(left)}"
-        elif name not in shared and len(left) > 1:
-            yield f"{name} is in {len(left)} places: {', '.join(left)}"
+        if name in shared and (len(here) != shared[name] or shared[name] < 2):
+            yield f"{name} is in {len(here)} places, and {shared[name]} are listed: {', '.join(here)}"
+        elif name not in shared and len(here) > 1:
+            yield f"{name} is in {len(here)} places: {', '.join(here)}"
 
 
 def run(_: argparse.Namespace) -> int:
     """Prints the faults, and returns the exit status."""
     found = found_in_crates()
-    faults = list(faults_of(found.places, GROUPS, NAMED_ALIKE))
+    faults = list(faults_of(found.places, GROUPS))
     for fault in faults:
         print(fault)
     shared = sum(len(group.names) for group in GROUPS)
-    renamed = sum(len(name.others) for name in NAMED_ALIKE.values())
     print(f"{found.types} types, {found.functions} functions, {found.definitions} definitions, {shared} shared names, "
-          f"{renamed} to be renamed, {len(faults)} faults")
+          f"{len(faults)} faults")
     return 1 if faults or not found.places else 0

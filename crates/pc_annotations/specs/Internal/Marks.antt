@@ -8,13 +8,13 @@ use Rattle.pc_types.specs.declared.head.Head.{Head}
 use Rattle.pc_types.specs.declared.head.Head.TheVariants as heads
 
 -- the class of a head, if it is one of the first n
-abbrev pub class_below : ℕ → Head → Option ℕ
-class_below n (heads.Class c) = if nat_lt c n then Some c else None
-class_below n _ = None
+abbrev pub class_among_first : ℕ → Head → Option ℕ
+class_among_first n (heads.Class c) = if nat_lt c n then Some c else None
+class_among_first n _ = None
 
 -- the heads that are not among the first n classes
 abbrev pub other_heads : ℕ → List Head → List Head
-other_heads n hs = filter (λ h. is_none (class_below n h)) hs
+other_heads n hs = filter (λ h. is_none (class_among_first n h)) hs
 
 -- the marks with one more, if there is one to add; none if it is marked already (a marking of the walk)
 abbrev pub with_mark : List Test → Option ℕ → Option (List Test)
@@ -25,7 +25,7 @@ with_mark marks (Some c) = if slice_index_or marks c false then None else Some (
 -- computed twin of what it says of the heads)
 abbrev pub with_marks : ℕ → List Test → List Head → Option (List Test)
 with_marks n marks [] = Some marks
-with_marks n marks (h ∷ hs) = option_and_then (λ m. with_marks n m hs) (with_mark marks (class_below n h))
+with_marks n marks (h ∷ hs) = option_and_then (λ m. with_marks n m hs) (with_mark marks (class_among_first n h))
 
 -- no marked class has another marked class as an ancestor
 abbrev pub AreUnrelated : Bases → List Test → Type 0

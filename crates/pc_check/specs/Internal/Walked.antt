@@ -6,6 +6,7 @@ use Rattle.pc_scope.specs.declared.resolution.NameMeaning.{NameMeaning}
 use Rattle.pc_types.specs.declared.store.TypeStore.{Ghosts as StoreOf}
 use Rattle.pc_flow.specs.Stored.{env_of}
 use Rattle.pc_notes.specs.Notes.{notes_of}
+use Rattle.pc_rules.specs.Computed.ModuleParents.{class_parents}
 use Rattle.pc_module_rules.specs.Computed.Statements.{BodyContext, Walk as Reached, BranchesResult}
 use Rattle.pc_walk.specs.StatementsHeld.{HoldsContext}
 use Rattle.pc_walk.specs.Untouched.{WayTakesIn}
@@ -35,15 +36,15 @@ module _ {Store Ty : Type 0} (S : StoreOf Store Ty) where
 
   -- the exit environment of the enclosing loop, if there is one, subsumes the environment at each local that is not
   -- unsettled
-  abbrev pub Settles : Walk Store Ty → (unsettled : List ℕ) → (env way : Option (List (Option Ty))) → Type 0
-  Settles w unsettled env way = WayTakesIn w.context.globals.now.outline.now.parents.now unsettled
+  abbrev pub ExitSubsumes : Walk Store Ty → (unsettled : List ℕ) → (env way : Option (List (Option Ty))) → Type 0
+  ExitSubsumes w unsettled env way = WayTakesIn (class_parents w.context.globals.now) unsettled
       (option_map (env_of S.tree) way) (option_map (env_of S.tree) env)
 
   -- the exit environment of the loop subsumes after statements that touch these locals whatever it subsumed before them
   abbrev pub StaysSettled : (old new : Walk Store Ty) → (touched : (List ℕ → NameMeaning) → List ℕ)
       → (unsettled later : List ℕ) → (env way out : Option (List (Option Ty))) → Type 0
   StaysSettled old new touched unsettled later env way out =
-      BreaksStaySettled old.context.globals.now.outline.now.parents.now (touched (meanings old.context.names.now))
+      BreaksStaySettled (class_parents old.context.globals.now) (touched (meanings old.context.names.now))
       unsettled later (option_map (env_of S.tree) way) (option_map (env_of S.tree) env) (option_map (env_of S.tree) out)
 
   -- the walk passed statements, from one environment and exit environment of the enclosing loop to others

@@ -41,6 +41,7 @@ use Rattle.pc_scope.specs.Resolution.{is_one_of}
 use Rattle.pc_calls.proofs.NamesGiven.{with_name, name_inserted}
 use Rattle.pc_expr.proofs.NamesBefore.{same_with}
 use Rattle.pc_tree.specs.declared.tree.Expr.TheFolds.{the_lemmas}
+use Rattle.pc_rules.specs.Computed.ModuleParents.{class_parents}
 use Rattle.pc_expr.proofs.ConditionsTyped.{negation_found, conjunction_found, disjunction_found}
 use Rattle.pc_rules.proofs.Checkers.{goes_further}
 use Rattle.pc_expr.proofs.+typing.Goals as goal
@@ -657,7 +658,7 @@ calls::type_arguments-loop-argument-preserved g t c =
           (label_in (standing_of g.S.TypeStore.tree c.args.setting.now c.args.env.now) _
           (expr_of c.argument-item.result)) c.in_ok-label.ensures.labelled.is
           ∙ ap (λ w. once (label_in (standing_of g.S.TypeStore.tree c.args.setting.now c.args.env.now) w
-          (expr_of c.argument-item.result)).codes) wants) (rw (late, c.deref.ensures.value) at c.early_at-early.ensures)
+          (expr_of c.argument-item.result)).codes) wants) (rw (late, c.deref.ensures.value) at c.is_second_early-early.ensures)
           v.early;
       found = seated_finds (standing_of g.S.TypeStore.tree c.args.setting.now c.args.env.now)
           (positional_seat (map (offer_called g.S.TypeStore.tree) c.args.offers.now)) c.args.arguments.now
@@ -766,7 +767,7 @@ typing::type_seated-returns-clause-found g t c =
     let m = label_in (standing_of g.S.TypeStore.tree c.args.setting.now c.args.env.now)
     (option_map g.S.TypeStore.tree c.args.seat.now.want) (expr_of c.args.e.now) in
     let flows = flows_at (place_of (expr_of c.args.e.now))
-    (flows_of c.args.setting.now.globals.now.outline.now.parents.now m
+    (flows_of (class_parents c.args.setting.now.globals.now) m
     (map g.S.TypeStore.tree c.args.seat.now.into.items)) in
     (rw (c.place.ensures, c.deref.ensures.value) at (c.in_ok-find_flows.ensures.found m
     c.in_ok-label.ensures.labelled.is))

@@ -3,11 +3,11 @@ use Rattle.std.specs.Prelude.{◌||◌, vec_len}
 use Rattle.pc_tree.specs.Lists.{exprs_of_list, entries_of_list, keywords_of_list}
 use Rattle.pc_notes.specs.Notes.{notes_of}
 use Rattle.pc_rules.specs.Calls.{positional_seat, named_seat}
-use Rattle.pc_rules.specs.Computed.Standing.{standing_of, types_in, items_find, keys_in, values_in, entries_find}
+use Rattle.pc_rules.specs.Computed.Standing.{standing_of, types_in, items_find, keys_in, value_types_in, entries_find}
 use Rattle.pc_rules.specs.Computed.Standing.{HasGivenAll, keywords_find}
 use Rattle.pc_calls.specs.JudgedCalls.{offer_called, HasCallOffer, names_in}
 use Rattle.pc_rules.specs.Computed.Checkers.{CheckerKept}
-use Rattle.pc_expr.specs.Typing.{early_in}
+use Rattle.pc_expr.specs.Typing.{second_is_early}
 use Rattle.pc_expr.specs.Internal.Seats.{seats_of, seat_with, HasSeats, HasEntrySeats}
 use Rattle.pc_expr.proofs.Steps.{seats_from, types_from, finds_from, early_from}
 use Rattle.pc_expr.proofs.EntrySteps.{keys_from, values_from, entries_from}
@@ -41,7 +41,7 @@ invariant-displays::type_entries-loop-entry g l = record {
       (seat_with g.S.TypeStore.tree l.seats.value) (entries_of_list l.entries);
   values : map g.S.TypeStore.tree l.values.items ++ values_from (standing_of g.S.TypeStore.tree l.setting l.env)
       (seat_with g.S.TypeStore.tree l.seats.key) (seat_with g.S.TypeStore.tree l.seats.value) l.entries l.entry-index
-      ≡ values_in (standing_of g.S.TypeStore.tree l.setting l.env) (seat_with g.S.TypeStore.tree l.seats.key)
+      ≡ value_types_in (standing_of g.S.TypeStore.tree l.setting l.env) (seat_with g.S.TypeStore.tree l.seats.key)
       (seat_with g.S.TypeStore.tree l.seats.value) (entries_of_list l.entries);
   found : (notes_of l.checker.found.now) ++ entries_from (standing_of g.S.TypeStore.tree l.setting l.env)
       (seat_with g.S.TypeStore.tree l.seats.key) (seat_with g.S.TypeStore.tree l.seats.value) l.entries l.entry-index
@@ -63,7 +63,7 @@ invariant-calls::type_arguments-loop-argument g l = record {
       (positional_seat (map (offer_called g.S.TypeStore.tree) l.offers)) (exprs_of_list l.arguments);
   early : (l.early || early_from l.argument-index (standing_of g.S.TypeStore.tree l.setting l.env)
       (seats_from l.argument-index (positional_seat (map (offer_called g.S.TypeStore.tree) l.offers)))
-      (exprs_of_list (drop l.argument-index l.arguments))) ≡ early_in (standing_of g.S.TypeStore.tree l.setting l.env)
+      (exprs_of_list (drop l.argument-index l.arguments))) ≡ second_is_early (standing_of g.S.TypeStore.tree l.setting l.env)
       (positional_seat (map (offer_called g.S.TypeStore.tree) l.offers)) (exprs_of_list l.arguments);
   found : (notes_of l.checker.found.now) ++ finds_from (standing_of g.S.TypeStore.tree l.setting l.env)
       (positional_seat (map (offer_called g.S.TypeStore.tree) l.offers)) l.arguments l.argument-index

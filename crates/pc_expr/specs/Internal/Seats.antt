@@ -6,14 +6,14 @@ use Rattle.pc_tree.specs.Tree.{Exprs, Entries}
 use Rattle.pc_types.specs.Tree.{Tree}
 use Rattle.pc_rules.specs.Calls.{Seat}
 use Rattle.pc_rules.specs.Lawful.{item_seat, part_seat}
-use Rattle.pc_rules.specs.Computed.Standing.{Standing, types_in, keys_in, values_in, HasIfAny}
+use Rattle.pc_rules.specs.Computed.Standing.{Standing, types_in, keys_in, value_types_in, HasIfAny}
 use Rattle.pc_expr.specs.declared.items.Seats.{Seats}
 use Rattle.pc_expr.specs.declared.items.Seats.TheVariants.{Same, Parts}
 use Rattle.pc_expr.specs.declared.items.Typed.{Typed}
 use Rattle.pc_expr.specs.declared.entries.EntrySeats.{EntrySeats}
 use Rattle.pc_expr.specs.declared.entries.EntryTypes.{EntryTypes}
 use Rattle.pc_calls.specs.declared.seats.Seat.{Seat as RustSeat}
-use Rattle.pc_expr.specs.Typing.{early_in}
+use Rattle.pc_expr.specs.Typing.{second_is_early}
 
 module _ {Ty : Type 0} (tree : Ty → Tree) where
   -- the seats that a program's seats of a display mean, by position
@@ -53,11 +53,11 @@ module _ {Store Ty : Type 0} (has : Store → Ty → Type 0) (tree : Ty → Tree
   pub record AreTyped (t : Typed Ty) (seat : ℕ → Seat) (es : Exprs) : Type 0 where
     pub given : All (has store) t.types.items
     pub types : map tree t.types.items ≡ types_in k seat es
-    pub early : t.early ≡ early_in k seat es
+    pub early : t.early ≡ second_is_early k seat es
 
   -- the types of keys and of values are of the store and mean these
   pub record AreEntryTypes (t : EntryTypes Ty) (key value : Seat) (es : Entries) : Type 0 where
     pub given_keys : All (has store) t.keys.items
     pub given_values : All (has store) t.values.items
     pub keys : map tree t.keys.items ≡ keys_in k key value es
-    pub values : map tree t.values.items ≡ values_in k key value es
+    pub values : map tree t.values.items ≡ value_types_in k key value es

@@ -10,9 +10,9 @@ use Rattle.pc_tree.specs.Tree.{no_keywords, more_keywords}
 use Rattle.pc_grammar.specs.Grammar.{Spelling, ◌⟫◌, Just, Sign, Word, IsName, Nothing}
 use Rattle.pc_grammar.specs.Grammar.Expressions.{own_level, sign_of, SpellsComparison, Operand, Spells, Expression}
 use Rattle.pc_grammar.specs.Machine.Kinds.{Infix, arithmetic, comparison, both, either}
-use Rattle.pc_grammar.specs.Machine.States.{Part, Prefix, minus, denial, Head, in_tuple, in_list, in_call, Stack, whole}
+use Rattle.pc_grammar.specs.Machine.States.{Part, Prefix, minus, denial, BracketPurpose, in_tuple, in_list, in_call, Stack, whole}
 use Rattle.pc_grammar.specs.Machine.States.{joining, applying, grouping, listing, indexing, naming, keying, valuing}
-use Rattle.pc_grammar.specs.Machine.Expressions.{own_of, left_of, prefix_level, rank}
+use Rattle.pc_grammar.specs.Machine.Expressions.{own_of, left_of, prefix_level, needed_level}
 use Rattle.pc_grammar.specs.Fronts.Lines.{Kept, BeforeContext}
 
 -- the tokens of an operator
@@ -58,7 +58,7 @@ IsMoreExprs no_exprs = ⊥
 IsMoreExprs (more_exprs x xs) = Unit {0}
 
 -- an open bracket, and the items so far; a tuple has at least one
-abbrev pub ItemsBefore : Head → Exprs → Spelling
+abbrev pub ItemsBefore : BracketPurpose → Exprs → Spelling
 ItemsBefore in_list xs = Sign sign.LeftBracket ⟫ EachItem xs
 ItemsBefore in_tuple xs = λ ts. IsMoreExprs xs × (Sign sign.LeftParenthesis ⟫ EachItem xs) ts
 ItemsBefore (in_call e) xs = Callee e ⟫ EachItem xs
@@ -74,9 +74,9 @@ EntriesBefore es = Sign sign.LeftBrace ⟫ EachEntry es
 -- the tokens before the operand on top of a stack
 abbrev pub Before : Stack → Spelling
 Before (whole c) = BeforeContext c
-Before (joining op l us s) = λ ts. (rank s ≤ own_of op)
+Before (joining op l us s) = λ ts. (needed_level s ≤ own_of op)
     × ((Before s ⟫ Holds (left_of op) l) ⟫ Kept us (SpellsInfix op)) ts
-Before (applying x us s) = λ ts. (rank s ≤ prefix_level x) × (Before s ⟫ Kept us (Just (prefix_kind x))) ts
+Before (applying x us s) = λ ts. (needed_level s ≤ prefix_level x) × (Before s ⟫ Kept us (Just (prefix_kind x))) ts
 Before (grouping us s) = Before s ⟫ Kept us (Sign sign.LeftParenthesis)
 Before (listing h xs us s) = Before s ⟫ Kept us (ItemsBefore h xs)
 Before (indexing e us s) = Before s ⟫ Kept us (Operand 7 (own_level e) (λ x. Spells e x) ⟫ Sign sign.LeftBracket)

@@ -16,8 +16,8 @@ use Rattle.pc_grammar.specs.Grammar.Annotations.{Annotation, SpellsAnn}
 use Rattle.pc_grammar.specs.Grammar.Statements.{Suite, SpellsStmt, SpellsStmts, SpellsBranches}
 use Rattle.pc_grammar.specs.Grammar.Modules.{SpellsParam, Parameters, SpellsMembers, SpellsItems, Header}
 use Rattle.pc_grammar.specs.Grammar.Modules.{OptionalHeader}
-use Rattle.pc_grammar.specs.Machine.States.{Stage, after_future, after_dataclasses, after_headers, Top, ClassStart}
-use Rattle.pc_grammar.specs.Machine.States.{Owner}
+use Rattle.pc_grammar.specs.Machine.States.{HeaderStage, after_future, after_dataclasses, after_headers, Top, ClassStart}
+use Rattle.pc_grammar.specs.Machine.States.{FunctionOwner}
 use Rattle.pc_grammar.specs.Machine.States.{of_module, of_class, DefStart, DefHead, Nest, while_body, for_body}
 use Rattle.pc_grammar.specs.Machine.States.{branch_body, else_body, Block, def_body, nested, Begun, assigned}
 use Rattle.pc_grammar.specs.Machine.States.{annotated_value, returned, asserted, asserted_with, looping, iterating}
@@ -62,7 +62,7 @@ BeforeItems top = Headers top.imports_dataclass top.imports_any ⟫ SpellsItems 
 
 -- the headers read so far are those of the stage, and no item has been read; after the last header there is no
 -- condition
-abbrev pub AtStage : Stage → Top → Type 0
+abbrev pub AtStage : HeaderStage → Top → Type 0
 AtStage after_future top = (top.imports_dataclass ≡ false) × (top.imports_any ≡ false) × (top.items ≡ [])
 AtStage after_dataclasses top = (top.imports_dataclass ≡ true) × (top.imports_any ≡ false) × (top.items ≡ [])
 AtStage after_headers top = Unit {0}
@@ -90,12 +90,12 @@ BeforeMembers c ms = (BeforeItems c.top ⟫ ClassHead c) ⟫ SpellsMembers ms
 -- ---- functions
 
 -- the tokens before a function of the module, or before a method of a class
-abbrev pub BeforeOwner : Owner → Spelling
+abbrev pub BeforeOwner : FunctionOwner → Spelling
 BeforeOwner (of_module top) = BeforeItems top
 BeforeOwner (of_class c ms) = BeforeMembers c ms
 
 -- `def`, with its place if it is in the module
-abbrev pub DefWord : Owner → Place → Spelling
+abbrev pub DefWord : FunctionOwner → Place → Spelling
 DefWord (of_module top) first = WordAt word.Def first
 DefWord (of_class c ms) first = Word word.Def
 
@@ -109,12 +109,12 @@ EachParam [] = Nothing
 EachParam (p ∷ ps) = SpellsParam p ⟫ Sign sign.Comma ⟫ EachParam ps
 
 -- the parameters of a function or a method, each followed by a comma; those of a method follow `self`
-abbrev pub ParamsOf : Owner → List Param → Spelling
+abbrev pub ParamsOf : FunctionOwner → List Param → Spelling
 ParamsOf (of_module top) ps = EachParam ps
 ParamsOf (of_class c ms) ps = Named (codes "self") ⟫ Sign sign.Comma ⟫ EachParam ps
 
 -- whether a function is in a class
-abbrev pub is_method : Owner → Bool
+abbrev pub is_method : FunctionOwner → Bool
 is_method (of_module top) = false
 is_method (of_class c ms) = true
 
@@ -124,7 +124,7 @@ abbrev pub BeforeParams : DefStart → List Param → Spelling
 BeforeParams d ps = BeforeOwner d.owner ⟫ (DefName d ⟫ ParamsOf d.owner ps)
 
 -- the tokens up to the `self` of a method; a function of the module has none
-abbrev pub SelfRead : DefStart → Owner → Spelling
+abbrev pub SelfRead : DefStart → FunctionOwner → Spelling
 SelfRead d (of_module top) = λ ts. ⊥
 SelfRead d (of_class c ms) = BeforeOwner d.owner ⟫ (DefName d ⟫ Named (codes "self"))
 
@@ -220,5 +220,5 @@ BeforeAnn (ann_inside head done us parts before s) = (BeforeAnn s ⟫ Kept befor
     ⟫ Kept us ((IsName head ⟫ Sign sign.LeftBracket) ⟫ EachAnn done sign.Comma true)
 
 -- the tokens before a part of a union
-abbrev pub Parts : Anns → List Lexeme → AnnStack → Spelling
-Parts parts before s = BeforeAnn s ⟫ Kept before (EachAnn parts sign.Bar false)
+abbrev pub BeforeUnionPart : Anns → List Lexeme → AnnStack → Spelling
+BeforeUnionPart parts before s = BeforeAnn s ⟫ Kept before (EachAnn parts sign.Bar false)

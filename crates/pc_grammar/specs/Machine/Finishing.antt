@@ -13,7 +13,7 @@ use Rattle.pc_tree.specs.Tree.{method_member, ClassDef, Item, constant_item, cla
 use Rattle.pc_tree.specs.NamesAlone.{name_of_tree}
 use Rattle.pc_grammar.specs.Grammar.{first_place}
 use Rattle.pc_grammar.specs.Machine.Kinds.{a_kind, same_kind, Ending, a_comma, a_colon, an_equal, a_line_end}
-use Rattle.pc_grammar.specs.Machine.States.{after_headers, Top, ClassStart, Owner, of_module, of_class, DefStart}
+use Rattle.pc_grammar.specs.Machine.States.{after_headers, Top, ClassStart, FunctionOwner, of_module, of_class, DefStart}
 use Rattle.pc_grammar.specs.Machine.States.{DefHead}
 use Rattle.pc_grammar.specs.Machine.States.{Nest, while_body, for_body, branch_body, else_body, Block, def_body, nested}
 use Rattle.pc_grammar.specs.Machine.States.{Site, Begun, assigned, annotated_value, returned, asserted, asserted_with}
@@ -22,7 +22,7 @@ use Rattle.pc_grammar.specs.Machine.States.{in_constant, AnnotationPosition, of_
 use Rattle.pc_grammar.specs.Machine.States.{of_local, LiteralContext, default_of_param, default_of_field, Part, whole}
 use Rattle.pc_grammar.specs.Machine.States.{ann_whole, State, fixed, items, members, param_due, params_read}
 use Rattle.pc_grammar.specs.Machine.States.{literal_due}
-use Rattle.pc_grammar.specs.Machine.States.{stmts, after_branch, part_due, operand, Turn, stuck, go, on}
+use Rattle.pc_grammar.specs.Machine.States.{stmts, after_branch, part_due, operand, Transition, stuck, go, on}
 
 -- ---- lists that grow at their end
 
@@ -79,7 +79,7 @@ abbrev pub function_of : DefHead → Stmts → FuncDef
 function_of h body = record { name = h.start.name; params = h.params; returns = h.returns; body = body }
 
 -- the state after a function, which is one more item of the module or one more member of its class
-abbrev pub after_def : Owner → Place → FuncDef → State
+abbrev pub after_def : FunctionOwner → Place → FuncDef → State
 after_def (of_module top) first f = items after_headers (add_item top (def_item first f))
 after_def (of_class c ms) first f = members c (ms ++ (method_member f ∷ []))
 
@@ -119,12 +119,12 @@ if_plain true x = x
 if_plain false x = None
 
 -- the turn at the `=` of an assignment: its value is due, unless no target is before the `=`
-abbrev pub begin_value : Option Target → Site → Turn
+abbrev pub begin_value : Option Target → Site → Transition
 begin_value (Some target) site = go (operand (whole (in_statement (assigned target) site)))
 begin_value None site = stuck
 
 -- the turn at the `:` after a local name: its annotation is due, unless no name is before the `:`
-abbrev pub begin_annotation : Option Name → Site → Turn
+abbrev pub begin_annotation : Option Name → Site → Transition
 begin_annotation (Some n) site = go (part_due no_anns [] (ann_whole (of_local n site)))
 begin_annotation None site = stuck
 
@@ -134,31 +134,31 @@ line_site done block p = record { first = first_place p.tokens; done = done; blo
 
 -- the turn after the expression that begins a line: the end of the line, the `=` of an assignment, or the `:` of an
 -- annotation
-abbrev pub finish_line : Part → Site → Ending → Turn
+abbrev pub finish_line : Part → Site → Ending → Transition
 finish_line p site a_line_end = go (after_stmt site (evaluates site.first p.tree))
 finish_line p site an_equal = begin_value (if_plain p.plain (target_of_tree p.tree)) site
 finish_line p site a_colon = begin_annotation (if_plain p.plain (name_of_tree p.tree)) site
 finish_line p site _ = stuck
 
 -- the turn to this state at the end of the line, where nothing else may follow
-abbrev pub at_line_end : State → Ending → Turn
+abbrev pub at_line_end : State → Ending → Transition
 at_line_end s a_line_end = go s
 at_line_end s _ = stuck
 
 -- the turn to this state at a `:`, where nothing else may follow
-abbrev pub at_colon : State → Ending → Turn
+abbrev pub at_colon : State → Ending → Transition
 at_colon s a_colon = go s
 at_colon s _ = stuck
 
 -- the turn after the condition of an `assert`: the end of the line, or the comma before its message
-abbrev pub finish_condition : Expr → Site → Ending → Turn
+abbrev pub finish_condition : Expr → Site → Ending → Transition
 finish_condition e site a_line_end = go (after_stmt site (asserts site.first e None))
 finish_condition e site a_comma = go (operand (whole (in_statement (asserted_with e) site)))
 finish_condition e site _ = stuck
 
 -- the turn after an expression of a begun statement: the end of the line, the `:` of a suite, or the comma of an
 -- `assert`
-abbrev pub finish_stmt : Begun → Part → Site → Ending → Turn
+abbrev pub finish_stmt : Begun → Part → Site → Ending → Transition
 finish_stmt (assigned target) p site e = at_line_end (after_stmt site (assigns site.first target p.tree)) e
 finish_stmt (annotated_value n a) p site e = at_line_end (after_stmt site (annotated site.first n a (Some p.tree))) e
 finish_stmt returned p site e = at_line_end (after_stmt site (returns site.first (Some p.tree))) e
@@ -170,7 +170,7 @@ finish_stmt (iterating target) p site e = at_colon (suite_of (nested_in site (fo
 finish_stmt (branching branches) p site e = at_colon (suite_of (nested_in site (branch_body branches p.tree))) e
 
 -- the turn after a whole expression
-abbrev pub finish : ExpressionPosition → Part → Ending → Turn
+abbrev pub finish : ExpressionPosition → Part → Ending → Transition
 finish (in_line done block) p e = finish_line p (line_site done block p) e
 finish (in_statement begun site) p e = finish_stmt begun p site e
 finish (in_constant n annotation top) p e =
@@ -184,12 +184,12 @@ abbrev pub param : Name → Option Ann → Option Literal → Param
 param n annotation default = record { name = n; annotation = annotation; default = default }
 
 -- the turn after a parameter
-abbrev pub param_end : DefStart → List Param → Param → TokenKind → Turn
+abbrev pub param_end : DefStart → List Param → Param → TokenKind → Transition
 param_end d ps p k = on (same_kind k (kind.Operator sign.Comma)) (param_due d (ps ++ (p ∷ [])))
     (on (same_kind k (kind.Operator sign.RightParenthesis)) (params_read d (ps ++ (p ∷ []))) stuck)
 
 -- the turn after the name of a parameter and its annotation, if it has one
-abbrev pub param_more : DefStart → List Param → Name → Option Ann → TokenKind → Turn
+abbrev pub param_more : DefStart → List Param → Name → Option Ann → TokenKind → Transition
 param_more d ps n annotation k =
     on (same_kind k (kind.Operator sign.Equal)) (literal_due (default_of_param d ps n annotation))
     (param_end d ps (param n annotation None) k)
@@ -199,7 +199,7 @@ abbrev pub field : Name → Ann → Option Literal → Member
 field n annotation default = field_member (record { name = n; annotation = annotation; default = default })
 
 -- the turn after a whole annotation
-abbrev pub finish_ann : AnnotationPosition → Ann → TokenKind → Turn
+abbrev pub finish_ann : AnnotationPosition → Ann → TokenKind → Transition
 finish_ann (of_constant n top) a k =
     on (same_kind k (kind.Operator sign.Equal)) (operand (whole (in_constant n (Some a) top))) stuck
 finish_ann (of_field c ms n) a k = on (same_kind k (kind.Operator sign.Equal)) (literal_due (default_of_field c ms n a))
@@ -213,7 +213,7 @@ finish_ann (of_local n site) a k =
     (on (same_kind k kind.Newline) (after_stmt site (annotated site.first n a None)) stuck)
 
 -- the turn after a literal
-abbrev pub finish_literal : LiteralContext → Literal → TokenKind → Turn
+abbrev pub finish_literal : LiteralContext → Literal → TokenKind → Transition
 finish_literal (default_of_param d ps n annotation) l k = param_end d ps (param n annotation (Some l)) k
 finish_literal (default_of_field c ms n a) l k =
     on (same_kind k kind.Newline) (members c (ms ++ (field n a (Some l) ∷ []))) stuck

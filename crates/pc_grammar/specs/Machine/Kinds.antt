@@ -158,19 +158,19 @@ pub data Start : Type 0 where
   no_start : Start
 
 -- the way in which a token of this kind begins an operand, if it does
-abbrev pub start_of : TokenKind → Start
-start_of kind.Name = a_name
-start_of kind.Int = a_number
-start_of kind.Str = a_string
-start_of (kind.Keyword word.True) = a_truth true
-start_of (kind.Keyword word.False) = a_truth false
-start_of (kind.Keyword word.None) = a_none
-start_of (kind.Keyword word.Not) = a_not
-start_of (kind.Operator sign.LeftParenthesis) = opens_parenthesis
-start_of (kind.Operator sign.LeftBracket) = opens_bracket
-start_of (kind.Operator sign.LeftBrace) = opens_brace
-start_of (kind.Operator sign.Minus) = a_minus
-start_of _ = no_start
+abbrev pub operand_start : TokenKind → Start
+operand_start kind.Name = a_name
+operand_start kind.Int = a_number
+operand_start kind.Str = a_string
+operand_start (kind.Keyword word.True) = a_truth true
+operand_start (kind.Keyword word.False) = a_truth false
+operand_start (kind.Keyword word.None) = a_none
+operand_start (kind.Keyword word.Not) = a_not
+operand_start (kind.Operator sign.LeftParenthesis) = opens_parenthesis
+operand_start (kind.Operator sign.LeftBracket) = opens_bracket
+operand_start (kind.Operator sign.LeftBrace) = opens_brace
+operand_start (kind.Operator sign.Minus) = a_minus
+operand_start _ = no_start
 
 -- ---- tokens after an operand
 

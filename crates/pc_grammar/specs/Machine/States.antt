@@ -9,10 +9,10 @@ use Rattle.pc_grammar.specs.Machine.Kinds.{Fixed, Infix}
 -- ---- the module and its items
 
 -- the headers that may still follow
-pub data Stage : Type 0 where
-  after_future : Stage
-  after_dataclasses : Stage
-  after_headers : Stage
+pub data HeaderStage : Type 0 where
+  after_future : HeaderStage
+  after_dataclasses : HeaderStage
+  after_headers : HeaderStage
 
 -- a module, as far as it has been read
 pub record Top : Type 0 where
@@ -29,13 +29,13 @@ pub record ClassStart : Type 0 where
   pub base : Option Name
 
 -- the owner of a function: the module, or a class after its other members
-pub data Owner : Type 0 where
-  of_module : (top : Top) → Owner
-  of_class : (c : ClassStart) (members : List Member) → Owner
+pub data FunctionOwner : Type 0 where
+  of_module : (top : Top) → FunctionOwner
+  of_class : (c : ClassStart) (members : List Member) → FunctionOwner
 
 -- a function up to its name
 pub record DefStart : Type 0 where
-  pub owner : Owner
+  pub owner : FunctionOwner
   pub first : Place
   pub name : Name
 
@@ -112,10 +112,10 @@ pub data Prefix : Type 0 where
   denial : Prefix
 
 -- the purpose of the items in a bracket: a tuple, a list, or a call of this callee
-pub data Head : Type 0 where
-  in_tuple : Head
-  in_list : Head
-  in_call : (callee : Expr) → Head
+pub data BracketPurpose : Type 0 where
+  in_tuple : BracketPurpose
+  in_list : BracketPurpose
+  in_call : (callee : Expr) → BracketPurpose
 
 -- the open nodes around an operand; each list of tokens begins with its node
 pub data Stack : Type 0 where
@@ -128,7 +128,7 @@ pub data Stack : Type 0 where
   -- the first expression in parentheses
   grouping : (tokens : List Lexeme) (s : Stack) → Stack
   -- an item, after others
-  listing : (h : Head) (xs : Exprs) (tokens : List Lexeme) (s : Stack) → Stack
+  listing : (h : BracketPurpose) (xs : Exprs) (tokens : List Lexeme) (s : Stack) → Stack
   -- the key in the brackets of `e[i]`
   indexing : (object : Expr) (tokens : List Lexeme) (s : Stack) → Stack
   -- the value of an argument by name
@@ -154,9 +154,9 @@ pub data State : Type 0 where
   -- these words are due, and then the next state
   fixed : (w : Fixed) (ws : List Fixed) (next : State) → State
   -- an item of the module, or the last line, is due
-  items : (stage : Stage) (top : Top) → State
+  items : (stage : HeaderStage) (top : Top) → State
   -- after `from`
-  importing : (stage : Stage) (top : Top) → State
+  importing : (stage : HeaderStage) (top : Top) → State
   -- after a name at the start of a line of the module
   item_named : (n : Name) (top : Top) → State
   -- after `@`
@@ -170,7 +170,7 @@ pub data State : Type 0 where
   -- a member of a class, or the end of its suite, is due
   members : (c : ClassStart) (done : List Member) → State
   -- after `def`
-  def_due : (owner : Owner) (first : Place) → State
+  def_due : (owner : FunctionOwner) (first : Place) → State
   -- after `self`
   self_read : (d : DefStart) → State
   -- a parameter or `)` is due
@@ -215,7 +215,7 @@ pub data State : Type 0 where
   -- after `(`
   group_due : (tokens : List Lexeme) (s : Stack) → State
   -- an item or the closing bracket is due
-  item_due : (h : Head) (xs : Exprs) (tokens : List Lexeme) (s : Stack) → State
+  item_due : (h : BracketPurpose) (xs : Exprs) (tokens : List Lexeme) (s : Stack) → State
   -- an argument by name or `)` is due, after arguments by name
   keyword_due : (callee : Expr) (xs : Exprs) (ks : Keywords) (tokens : List Lexeme) (s : Stack) → State
   -- after the name of an argument, where only an argument by name may follow
@@ -226,11 +226,11 @@ pub data State : Type 0 where
   ended : (m : Module) → State
 
 -- the result of one token: the next state, or stuck
-pub data Turn : Type 0 where
-  stuck : Turn
-  go : (s : State) → Turn
+pub data Transition : Type 0 where
+  stuck : Transition
+  go : (s : State) → Transition
 
 -- a turn to this state if the test holds, otherwise the other turn
-abbrev pub on : Bool → State → Turn → Turn
+abbrev pub on : Bool → State → Transition → Transition
 on Bool.true s other = go s
 on Bool.false s other = other

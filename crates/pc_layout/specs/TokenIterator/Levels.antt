@@ -17,8 +17,8 @@ abbrev pub placed_by : List Level → SuiteChange → Placement
 placed_by vs s = record { levels = vs; dedents = s.dedents; indent = s.indent }
 
 -- a line at this column with these tokens
-abbrev pub line_at : ℕ → List Lexeme → LogicalLine
-line_at column xs = record { column = column; lexemes = xs }
+abbrev pub line_of_tokens : ℕ → List Lexeme → LogicalLine
+line_of_tokens column xs = record { column = column; lexemes = xs }
 
 -- the line is placed and this context follows, or it is refused
 abbrev pub StepsTo : ℕ → LayoutContext → LogicalLine → Result SuiteChange Refusal → LayoutContext → Type 0

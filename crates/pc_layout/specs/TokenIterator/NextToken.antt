@@ -5,7 +5,7 @@ use Rattle.pc_source.specs.declared.fault.Fault.{Fault}
 use Rattle.pc_token.specs.declared.token.Line.{Line}
 use Rattle.pc_token.specs.declared.token.Token.{Token}
 use Rattle.pc_token.specs.Lexeme.{Lexeme, lexeme_of}
-use Rattle.pc_layout.specs.TokenIterator.Items.{Left}
+use Rattle.pc_layout.specs.TokenIterator.Items.{ItemsLeft}
 use Rattle.pc_layout.specs.declared.pending_line.PendingLine.{PendingLine}
 use Rattle.pc_layout.specs.declared.pending_line.LineStage.TheVariants.{Nothing}
 
@@ -13,7 +13,7 @@ use Rattle.pc_layout.specs.declared.pending_line.LineStage.TheVariants.{Nothing}
 abbrev pub gives_next_token : {I : Type 0} → (I → Option (Result Line Fault) → I → Type 0) → PendingLine → I
     → Option (Result (Token (Bor (List ℕ))) Fault) → PendingLine → I → Type 0
 gives_next_token steps h it r h' it' = MatchOption r
-    ((h'.due ≡ Nothing) × Left steps h it [])
+    ((h'.due ≡ Nothing) × ItemsLeft steps h it [])
     (λ i. MatchResult i
-    (λ x. (ys : List (Result Lexeme Fault)) → Left steps h' it' ys → Left steps h it (Ok (lexeme_of x) ∷ ys))
-    (λ e. (h'.due ≡ Nothing) × Left steps h it (Err e ∷ [])))
+    (λ x. (ys : List (Result Lexeme Fault)) → ItemsLeft steps h' it' ys → ItemsLeft steps h it (Ok (lexeme_of x) ∷ ys))
+    (λ e. (h'.due ≡ Nothing) × ItemsLeft steps h it (Err e ∷ [])))

@@ -17,8 +17,8 @@ abbrev pub end_of_line : LineEnd → Lexeme
 end_of_line e = record { kind = Newline; place = e.place; text = e.text.now; form = e.text.now }
 
 -- the tokens left of the current line
-abbrev pub left_of : PendingLine → List Lexeme
-left_of h = map lexeme_of (reverse h.tokens.items)
+abbrev pub line_tokens_left : PendingLine → List Lexeme
+line_tokens_left h = map lexeme_of (reverse h.tokens.items)
 
 -- the items that are left, by what is due, if these lines follow the current one
 abbrev pub pending_by : LineStage → PendingLine → List (Result LogicalLine Fault) → List (Result Lexeme Fault)
@@ -26,7 +26,7 @@ pending_by due.Lines h ls = layout_lexemes h.text.now (context_of h.levels) ls
 pending_by due.Line h ls =
     give (dedents h.dedents h.mark)
     (give (indents h.indent h.mark)
-    (give (left_of h) (Ok (end_of_line h.end) ∷ layout_lexemes h.text.now (context_of h.levels) ls)))
+    (give (line_tokens_left h) (Ok (end_of_line h.end) ∷ layout_lexemes h.text.now (context_of h.levels) ls)))
 pending_by due.End h ls = give (dedents h.dedents h.mark) (Ok (empty_token End (length h.text.now)) ∷ [])
 pending_by due.Nothing h ls = []
 

@@ -43,15 +43,15 @@ use Rattle.pc_module_rules.specs.Modules.{entry_parameters}
 -- ---- declared types so far
 
 -- the declared type of each local so far, none for a local not yet bound
-abbrev pub Table : Type 0
-Table = List (Option Tree)
+abbrev pub DeclaredTypes : Type 0
+DeclaredTypes = List (Option Tree)
 
 -- the declared types, Any for locals not yet bound
-abbrev pub type_table : Table → List Tree
+abbrev pub type_table : DeclaredTypes → List Tree
 type_table table = map (λ o. unwrap_or o Any) table
 
 -- the declared type of a local, if it is bound
-abbrev pub bound_type : Table → ℕ → Option Tree
+abbrev pub bound_type : DeclaredTypes → ℕ → Option Tree
 bound_type table x = slice_index_or table x None
 
 -- a table with a declared type for a local, unless it has one already
@@ -77,14 +77,14 @@ pub record BodyContext : Type 0 where
 -- the state of a walk over statements: declared types; the environment, none in unreachable code; inside a loop its
 -- exit environment joined with each `break` so far; and the notes
 pub record Walk : Type 0 where
-  pub table : Table
+  pub table : DeclaredTypes
   pub env : Option Env
   pub broken : Option Env
   pub found : List Note
 
 -- the result of a binding: declared types, the environment after it, and the notes
 pub record BindingResult : Type 0 where
-  pub table : Table
+  pub table : DeclaredTypes
   pub env : Env
   pub found : List Note
 
@@ -97,12 +97,12 @@ local_note (Some d) now p = named p d now ∷ []
 
 -- the note of a bound name at its place, if it means a local: its declared type, and, if it has a value, its current
 -- type
-abbrev pub name_note : (valued : Test) → Table → Env → NameMeaning → Place → List Note
+abbrev pub name_note : (valued : Test) → DeclaredTypes → Env → NameMeaning → Place → List Note
 name_note valued table env (res.Local x) p = local_note (bound_type table x) (if valued then current env x else None) p
 name_note valued table env r p = []
 
 -- notes with that of a bound name after them, if types are kept
-abbrev pub notes_after : (keeps valued : Test) → Table → Env → NameMeaning → Place → List Note → List Note
+abbrev pub notes_after : (keeps valued : Test) → DeclaredTypes → Env → NameMeaning → Place → List Note → List Note
 notes_after false valued table env r p found = found
 notes_after true valued table env r p found = found ++ name_note valued table env r p
 
@@ -118,27 +118,27 @@ noted_binding true valued r p b = record {
 -- the state of a walk over branches: declared types, the environment where all conditions so far are false, the join of
 -- the environments at the ends of the suites, breaks, and the notes
 pub record BranchesResult : Type 0 where
-  pub table : Table
+  pub table : DeclaredTypes
   pub last : Env
   pub ways : Option Env
   pub broken : Option Env
   pub found : List Note
 
 -- an environment joined onto the exit environment of a loop, if there is a loop
-abbrev pub join_onto_way : Bases → Table → (way : Option Env) → Env → Option Env
+abbrev pub join_onto_way : Bases → DeclaredTypes → (way : Option Env) → Env → Option Env
 join_onto_way bases table None env = None
 join_onto_way bases table (Some way) env = Some (join_env bases (type_table table) way env)
 
 -- the join of the environments at the ends of suites with one more, if that suite can complete
-abbrev pub with_way : Bases → Table → (ways : Option Env) → (out : Option Env) → Option Env
+abbrev pub with_way : Bases → DeclaredTypes → (ways : Option Env) → (out : Option Env) → Option Env
 with_way bases table ways None = ways
 with_way bases table None (Some env) = Some env
 with_way bases table (Some way) (Some env) = Some (join_env bases (type_table table) way env)
 
 module _ (context : BodyContext) where
   -- the standing of an expression here
-  abbrev pub at : Table → Env → Standing
-  at table env = record {
+  abbrev pub standing_here : DeclaredTypes → Env → Standing
+  standing_here table env = record {
     context = context.context;
     declared = type_table table;
     env = env;
@@ -146,25 +146,25 @@ module _ (context : BodyContext) where
   }
 
   -- an environment where a condition is true, or where it is false
-  abbrev pub narrowed_at : Table → (holds : Test) → Expr → Env → Env
+  abbrev pub narrowed_at : DeclaredTypes → (holds : Test) → Expr → Env → Env
   narrowed_at table holds c env = narrow context.context.bases (type_table table) context.context.resolve holds c env
 
   -- ---- names in unreachable code
 
   -- a table with Any for a local first bound in unreachable code
-  abbrev pub unreached_name : Table → NameMeaning → Table
+  abbrev pub unreached_name : DeclaredTypes → NameMeaning → DeclaredTypes
   unreached_name table (res.Local x) = with_declared (bound_type table x) table x Any
   unreached_name table r = table
 
   -- a table with Any for each of the locals first bound in unreachable code
-  abbrev pub unreached_names : Table → List Name → Table
+  abbrev pub unreached_names : DeclaredTypes → List Name → DeclaredTypes
   unreached_names table [] = table
   unreached_names table (n ∷ ns) = unreached_names (unreached_name table (context.context.resolve n.text)) ns
 
   -- ---- binding a name
 
   -- the result of binding a local to a label at this place: its declared type, the flow into it, and its current type
-  abbrev pub bind_label : (table : Table) → Env → ℕ → (want : Option Tree) → Place → Label → List Note → BindingResult
+  abbrev pub bind_label : (table : DeclaredTypes) → Env → ℕ → (want : Option Tree) → Place → Label → List Note → BindingResult
   bind_label table env x want p label found =
       let d = unwrap_or want label.type in
       let flows = flows_of context.context.bases label (d ∷ []) in
@@ -175,15 +175,15 @@ module _ (context : BodyContext) where
       }
 
   -- the result of binding a value to a name, with its annotation unless ignored; only a local is bound
-  abbrev pub bind_value : Table → Env → NameMeaning → (annotation : Option Tree) → Expr → List Note → BindingResult
+  abbrev pub bind_value : DeclaredTypes → Env → NameMeaning → (annotation : Option Tree) → Expr → List Note → BindingResult
   bind_value table env (res.Local x) annotation e found =
       let want = known_declared (bound_type table x) annotation in
-      bind_label table env x want (place_of e) (label_in (at table env) want e)
-      (found ++ finds_in (at table env) want e)
+      bind_label table env x want (place_of e) (label_in (standing_here table env) want e)
+      (found ++ finds_in (standing_here table env) want e)
   bind_value table env r annotation e found = record {
     table = table;
     env = env;
-    found = found ++ finds_in (at table env) None e;
+    found = found ++ finds_in (standing_here table env) None e;
   }
 
   -- a binding with the note of its name after it, if types are kept: of a local, its types after the binding
@@ -191,7 +191,7 @@ module _ (context : BodyContext) where
   with_note valued r p b = noted_binding context.keeps valued r p b
 
   -- the table after a name annotated without a value
-  abbrev pub declared_alone : Table → NameMeaning → Tree → Table
+  abbrev pub declared_alone : DeclaredTypes → NameMeaning → Tree → DeclaredTypes
   declared_alone table (res.Local x) t = with_declared (bound_type table x) table x t
   declared_alone table r t = table
 
@@ -201,12 +201,12 @@ module _ (context : BodyContext) where
   annotation_finds None n a = map plain_note (ann_findings context.whole context.context.bases a)
 
   -- the declared type of the local that a name means, if it is a bound one
-  abbrev pub bound_name : Table → NameMeaning → Option Tree
+  abbrev pub bound_name : DeclaredTypes → NameMeaning → Option Tree
   bound_name table (res.Local x) = bound_type table x
   bound_name table r = None
 
   -- the result of an annotated name with this meaning, with or without a value
-  abbrev pub annotated_binding : Table → Env → NameMeaning → Name → Ann → Option Expr → List Note → BindingResult
+  abbrev pub annotated_binding : DeclaredTypes → Env → NameMeaning → Name → Ann → Option Expr → List Note → BindingResult
   annotated_binding table env r n a None found = record {
     table = declared_alone table r (read_ann context.whole context.context.bases a);
     env = env;
@@ -217,7 +217,7 @@ module _ (context : BodyContext) where
       (found ++ annotation_finds (bound_name table r) n a)
 
   -- the result of an annotated name, and if types are kept, the note of the name
-  abbrev pub bind_annotated : Table → Env → Name → Ann → Option Expr → List Note → BindingResult
+  abbrev pub bind_annotated : DeclaredTypes → Env → Name → Ann → Option Expr → List Note → BindingResult
   bind_annotated table env n a e found = with_note (is_some e) (context.context.resolve n.text) n.place
       (annotated_binding table env (context.context.resolve n.text) n a e found)
 
@@ -252,13 +252,13 @@ module _ (context : BodyContext) where
       ++ stored_finds k offers p e))
 
   -- the result of an assignment: a name is bound, any other target is stored to
-  abbrev pub assign_target : Table → Env → Target → Expr → List Note → BindingResult
+  abbrev pub assign_target : DeclaredTypes → Env → Target → Expr → List Note → BindingResult
   assign_target table env (to_name n) e found = with_note true (context.context.resolve n.text) n.place
       (bind_value table env (context.context.resolve n.text) None e found)
   assign_target table env t e found = record {
     table = table;
     env = env;
-    found = found ++ store_finds (at table env) t e;
+    found = found ++ store_finds (standing_here table env) t e;
   }
 
   -- ---- the iterable of a `for`
@@ -283,12 +283,12 @@ module _ (context : BodyContext) where
   iterable_finds k e = finds_in k None e
 
   -- the result of binding the target of a `for` to an item of this type, in the environment at the head
-  abbrev pub bind_item : Table → (head : Env) → NameMeaning → Place → Tree → List Note → BindingResult
+  abbrev pub bind_item : DeclaredTypes → (head : Env) → NameMeaning → Place → Tree → List Note → BindingResult
   bind_item table head (res.Local x) p t found = bind_label table head x (bound_type table x) p (clean t) found
   bind_item table head r p t found = record { table = table; env = head; found = found }
 
   -- the environment at the head of a loop that binds these names
-  abbrev pub head_at : Table → List Name → Env → Env
+  abbrev pub head_at : DeclaredTypes → List Name → Env → Env
   head_at table names env = loop_head (binds_number context.context.resolve names) (type_table table) env
 
   -- ---- statements
@@ -329,7 +329,7 @@ module _ (context : BodyContext) where
 
   -- the state after a statement, after a suite, and after branches
   abbrev mutual
-    pub step : Table → (env : Option Env) → (broken : Option Env) → List Note → Stmt → Walk
+    pub step : DeclaredTypes → (env : Option Env) → (broken : Option Env) → List Note → Stmt → Walk
     -- unreachable: nothing is found, and locals first bound here have Any
     step table None broken found s = record {
       table = unreached_names table (bound_by_stmt s);
@@ -359,14 +359,14 @@ module _ (context : BodyContext) where
       table = table;
       env = None;
       broken = broken;
-      found = found ++ return_finds (at table env) p e;
+      found = found ++ return_finds (standing_here table env) p e;
     }
     step table (Some env) broken found (asserts p c e) = record {
       table = table;
       env = Some (narrowed_at table true c env);
       broken = broken;
-      found = (found ++ finds_in (at table env) None c)
-          ++ option_finds (at table (narrowed_at table false c env)) None e;
+      found = (found ++ finds_in (standing_here table env) None c)
+          ++ option_finds (standing_here table (narrowed_at table false c env)) None e;
     }
     step table (Some env) broken found (annotated p n a e) =
         behind_binding broken (bind_annotated table env n a e found)
@@ -375,7 +375,7 @@ module _ (context : BodyContext) where
       table = table;
       env = Some env;
       broken = broken;
-      found = found ++ finds_in (at table env) None e;
+      found = found ++ finds_in (standing_here table env) None e;
     }
     step table (Some env) broken found (while_loop p c b) =
         let head = head_at table (bound_by b) env in
@@ -383,15 +383,15 @@ module _ (context : BodyContext) where
           table = table;
           env = Some (narrowed_at table true c head);
           broken = Some (narrowed_at table false c head);
-          found = found ++ finds_in (at table head) None c;
+          found = found ++ finds_in (standing_here table head) None c;
         }) b)
     step table (Some env) broken found (for_loop p n e b) =
         let head = head_at table (n ∷ bound_by b) env in
-        let item = item_label_of (at table env) e in
+        let item = item_label_of (standing_here table env) e in
         behind_loop broken (walk_suite
         (inside_for head (with_note true (context.context.resolve n.text) n.place
         (bind_item table head (context.context.resolve n.text) (place_of e) item.type
-        ((found ++ iterable_finds (at table env) e) ++ codes_at (place_of e) item.codes)))) b)
+        ((found ++ iterable_finds (standing_here table env) e) ++ codes_at (place_of e) item.codes)))) b)
     step table (Some env) broken found (conditional p bs o) =
         let fork = walk_branches
         (record { table = table; last = env; ways = None; broken = broken; found = found }) bs in
@@ -410,7 +410,7 @@ module _ (context : BodyContext) where
           table = w.table;
           env = Some (narrowed_at w.table true c w.last);
           broken = w.broken;
-          found = w.found ++ finds_in (at w.table w.last) None c;
+          found = w.found ++ finds_in (standing_here w.table w.last) None c;
         }) b in
         walk_branches (record {
           table = body.table;
@@ -424,15 +424,15 @@ module _ (context : BodyContext) where
 
 -- the table and environment at the entry of a function, with each parameter declared and assigned; a name that is
 -- already bound, or reserved, binds nothing
-abbrev pub enter_local : (bound : Option Tree) → Table → Env → ℕ → Tree → Table × Env
+abbrev pub enter_local : (bound : Option Tree) → DeclaredTypes → Env → ℕ → Tree → DeclaredTypes × Env
 enter_local (Some d) table env x t = (table, env)
 enter_local None table env x t = (slice_set table x (Some t), assign env x t)
 
-abbrev pub enter_name : Table → Env → NameMeaning → Tree → Table × Env
+abbrev pub enter_name : DeclaredTypes → Env → NameMeaning → Tree → DeclaredTypes × Env
 enter_name table env (res.Local x) t = enter_local (bound_type table x) table env x t
 enter_name table env r t = (table, env)
 
-abbrev pub enter_parameters : (List ℕ → NameMeaning) → Table → Env → List TypedParameter → Table × Env
+abbrev pub enter_parameters : (List ℕ → NameMeaning) → DeclaredTypes → Env → List TypedParameter → DeclaredTypes × Env
 enter_parameters resolve table env [] = (table, env)
 enter_parameters resolve table env (p ∷ ps) = let r = enter_name table env (resolve p.name) p.type in
     enter_parameters resolve r.0 r.1 ps

@@ -25,7 +25,7 @@ use Rattle.pc_module_rules.specs.Statements.{NamesBound, LawfulStmt, LawfulSuite
 use Rattle.pc_module_rules.specs.Modules.{FunctionLabels, LawfulFunction, MembersLabels, LawfulMembers}
 
 -- names mean locals with numbers below a count, and no two names mean the same one
-pub record Locals (ctx : Context) (count : ℕ) : Type 0 where
+pub record NumberedLocals (ctx : Context) (count : ℕ) : Type 0 where
   pub below : (word : List ℕ) (x : ℕ) → ctx.resolve word ≡ res.Local x → x < count
   pub apart : (a b : List ℕ) (x : ℕ) → ctx.resolve a ≡ res.Local x → ctx.resolve b ≡ res.Local x → a ≡ b
 
@@ -35,7 +35,7 @@ pub record Surroundings : Type 0 where
   pub context : Context
   pub context_well_formed : ContextWellFormed context
   pub count : ℕ
-  pub locals : Locals context count
+  pub locals : NumberedLocals context count
 
 -- a table with a well-formed declared type for each local
 pub record IsDeclaredTable (setting : Surroundings) (declared : List Tree) : Type 0 where

@@ -4,7 +4,7 @@ use Rattle.std.specs.Prelude.{◌≡◌, [], List, ◌++◌, map, Option, true}
 use Rattle.pc_source.specs.declared.place.Place.{Place}
 use Rattle.pc_tree.specs.Tree.{Module}
 use Rattle.pc_types.specs.Tree.{Tree}
-use Rattle.pc_notes.specs.Notes.{names_of}
+use Rattle.pc_notes.specs.Notes.{names_of_notes}
 use Rattle.pc_module_rules.specs.Modules.{Labelling, IsLawful}
 use Rattle.pc_module_rules.specs.Computed.Modules.{module_notes}
 use Rattle.pc_module_rules.specs.NamesOfStatements.{NameAt}
@@ -22,4 +22,4 @@ names_by_labels m labels = names_of_constants m m.items labels ++ names_in_bodie
 -- in this order
 abbrev pub NamesAreNoted : Type 0
 NamesAreNoted = (m : Module) (labels : Labelling m) → IsLawful m labels
-    → names_of (module_notes true m []) ≡ map as_noted (names_by_labels m labels)
+    → names_of_notes (module_notes true m []) ≡ map as_noted (names_by_labels m labels)

@@ -23,7 +23,7 @@ use Rattle.pc_module_rules.specs.StatementLabels.{StmtLabels, SuiteLabels, break
 use Rattle.pc_module_rules.specs.Statements.{NamesBound, LawfulStmt, LawfulSuite, StmtFinds, SuiteFinds}
 use Rattle.pc_module_rules.specs.Modules.{FunctionLabels, LawfulFunction, entry_parameters, names_entered}
 use Rattle.pc_module_rules.specs.Laws.Labellings.{Surroundings}
-use Rattle.pc_module_rules.specs.Computed.Statements.{Table, type_table, bound_type, BodyContext, Walk, step}
+use Rattle.pc_module_rules.specs.Computed.Statements.{DeclaredTypes, type_table, bound_type, BodyContext, Walk, step}
 use Rattle.pc_module_rules.specs.Computed.Statements.{walk_suite}
 use Rattle.pc_module_rules.specs.Computed.Statements.{function_finds}
 
@@ -38,7 +38,7 @@ body_context_in setting returned = record {
 
 -- the table of a walk fits declared types, after the names bound so far: each local that one of them means has its
 -- declared type there, and no other local has one
-pub record TableFits (setting : Surroundings) (declared : List Tree) (seen : NamesBound) (table : Table) : Type 0 where
+pub record TableFits (setting : Surroundings) (declared : List Tree) (seen : NamesBound) (table : DeclaredTypes) : Type 0 where
   pub long : length table ≡ setting.count
   pub well_formed : IsWellFormedEnv setting.context.bases table
   pub bound : (word : List ℕ) (x : ℕ) → is_one_of word seen ≡ true → setting.context.resolve word ≡ res.Local x
@@ -48,12 +48,12 @@ pub record TableFits (setting : Surroundings) (declared : List Tree) (seen : Nam
 
 -- an environment fits the table of a walk and declared types: they agree on each local that it assigns, and its types
 -- are well-formed
-pub record EnvFits (setting : Surroundings) (declared : List Tree) (table : Table) (env : Env) : Type 0 where
+pub record EnvFits (setting : Surroundings) (declared : List Tree) (table : DeclaredTypes) (env : Env) : Type 0 where
   pub same : SameWhere declared (type_table table) env
   pub well_formed : IsWellFormedEnv setting.context.bases env
 
 -- an environment, if there is one, fits the table of a walk and declared types
-abbrev pub OutFits : Surroundings → List Tree → Table → Option Env → Type 0
+abbrev pub OutFits : Surroundings → List Tree → DeclaredTypes → Option Env → Type 0
 OutFits setting declared table None = Unit {0}
 OutFits setting declared table (Some env) = EnvFits setting declared table env
 
@@ -73,7 +73,7 @@ Lists notes Says = (f : Finding) → Contains (findings_of notes) f ↔ (Says f 
 
 -- a walk agrees with labels: its table fits after these names, its environment is this one, these `break`s are joined,
 -- and exactly these findings were added; and what fitted the table before fits the one after
-pub record WalkSays (setting : Surroundings) (declared : List Tree) (seen : NamesBound) (table : Table)
+pub record WalkSays (setting : Surroundings) (declared : List Tree) (seen : NamesBound) (table : DeclaredTypes)
     (broken : Option Env) (found : List Note) (w : Walk) (out : Option Env) (breaks : List Env)
     (Says : Finding → Type 0) : Type 0 where
   pub fits : TableFits setting declared seen w.table
@@ -88,7 +88,7 @@ pub record WalkSays (setting : Surroundings) (declared : List Tree) (seen : Name
 abbrev pub WalksOfStatementsSayWhatLabelsSay : Type 0
 WalksOfStatementsSayWhatLabelsSay =
     (setting : Surroundings) (returned : Tree) → IsWellFormed setting.context.bases returned →
-    (declared : List Tree) (seen : NamesBound) (table : Table) (env : Env) (broken : Option Env) (found : List Note) →
+    (declared : List Tree) (seen : NamesBound) (table : DeclaredTypes) (env : Env) (broken : Option Env) (found : List Note) →
     TableFits setting declared seen table → EnvFits setting declared table env → OutFits setting declared table broken →
     (s : Stmt) (labels : StmtLabels s) (out : Option Env)
     → LawfulStmt setting.whole setting.context declared returned seen env s labels out →
@@ -100,7 +100,7 @@ WalksOfStatementsSayWhatLabelsSay =
 abbrev pub WalksOfSuitesSayWhatLabelsSay : Type 0
 WalksOfSuitesSayWhatLabelsSay =
     (setting : Surroundings) (returned : Tree) → IsWellFormed setting.context.bases returned →
-    (declared : List Tree) (seen : NamesBound) (table : Table) (env : Env) (broken : Option Env) (found : List Note) →
+    (declared : List Tree) (seen : NamesBound) (table : DeclaredTypes) (env : Env) (broken : Option Env) (found : List Note) →
     TableFits setting declared seen table → EnvFits setting declared table env → OutFits setting declared table broken →
     (b : Stmts) (labels : SuiteLabels b) (out : Option Env)
     → LawfulSuite setting.whole setting.context declared returned seen env b labels out →

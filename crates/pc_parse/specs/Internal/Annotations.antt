@@ -28,14 +28,14 @@ pub record KeepsAnn (o : Annotation) (a : Ann) (ts : List Lexeme) : Type 0 where
   pub kept : o.depth ≤ 64 → ann_of o.ann ≡ a
 
 -- the trees of a list of annotations
-abbrev pub anns_in : List RustAnn → Anns
-anns_in [] = no_anns
-anns_in (a ∷ rest) = more_anns (ann_of a) (anns_in rest)
+abbrev pub trees_of_anns : List RustAnn → Anns
+trees_of_anns [] = no_anns
+trees_of_anns (a ∷ rest) = more_anns (ann_of a) (trees_of_anns rest)
 
 -- the list keeps these annotations, unless a node over them would be too deep
 pub record KeepsAnns (o : Annotations) (anns : Anns) : Type 0 where
   pub depth : o.depth ≡ min 65 (depth_over_anns anns)
-  pub kept : o.depth ≤ 64 → anns_in o.anns.items ≡ anns
+  pub kept : o.depth ≤ 64 → trees_of_anns o.anns.items ≡ anns
 
 -- the value is the annotation that any tokens between these bytes spell
 abbrev pub MakesAnn : Annotation → (Place → Ann) → ℕ → ℕ → Type 0

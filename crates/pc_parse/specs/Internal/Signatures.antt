@@ -17,8 +17,8 @@ use Rattle.pc_tree.specs.Tree.{Ann, no_anns, Param, FuncDef, option_ann_of, para
 use Rattle.pc_tree.specs.Depth.{optional_anns, wholes_of_params, wholes_of_def}
 use Rattle.pc_grammar.specs.Machine.{at}
 use Rattle.pc_grammar.specs.Machine.Kinds.{same_kind, a_form}
-use Rattle.pc_grammar.specs.Machine.States.{Owner, DefStart, AnnotationPosition, ann_whole, State, fixed, def_due}
-use Rattle.pc_grammar.specs.Machine.States.{self_read, param_due, params_read, part_due, Turn, on}
+use Rattle.pc_grammar.specs.Machine.States.{FunctionOwner, DefStart, AnnotationPosition, ann_whole, State, fixed, def_due}
+use Rattle.pc_grammar.specs.Machine.States.{self_read, param_due, params_read, part_due, Transition, on}
 use Rattle.pc_grammar.specs.Machine.Finishing.{finish_ann, param_end, after_def}
 use Rattle.pc_grammar.specs.Machine.Lines.{params_of}
 use Rattle.pc_grammar.specs.Fronts.Lines.{is_method}
@@ -28,11 +28,11 @@ use Rattle.pc_parse.specs.declared.parser.Parser.{Parser}
 use Rattle.pc_parse.specs.Internal.WholeTrees.{KeepsTree}
 
 -- the turn where an annotation is optional: this sign begins it, any other token does what it does without one
-abbrev pub opens_ann : Opener → AnnotationPosition → (TokenKind → Turn) → TokenKind → Turn
+abbrev pub opens_ann : Opener → AnnotationPosition → (TokenKind → Transition) → TokenKind → Transition
 opens_ann opener c other k = on (same_kind k (kind.Operator opener)) (part_due no_anns [] (ann_whole c)) (other k)
 
 -- the turn after an optional annotation
-abbrev pub or_ann : AnnotationPosition → (TokenKind → Turn) → Option Ann → TokenKind → Turn
+abbrev pub or_ann : AnnotationPosition → (TokenKind → Transition) → Option Ann → TokenKind → Transition
 or_ann c other None k = other k
 or_ann c other (Some a) k = finish_ann c a k
 
@@ -44,14 +44,14 @@ module _ {X I : Type 0} (text : X → List ℕ) (steps : I → Option (Result (T
     pub keeps : KeepsTree option_ann_of optional_anns a.deep b.deep n annotation
     pub ready : IsReady can left b.reader
     pub later : left_in left b.reader ≤ left_in left a.reader
-    pub leads : (st : State) (c : AnnotationPosition) (other : TokenKind → Turn)
+    pub leads : (st : State) (c : AnnotationPosition) (other : TokenKind → Transition)
         → StandsBefore text a.reader st (opens_ann opener c other)
         → LeadsTo text steps a.reader b.reader st (or_ann c other annotation)
 
   -- an optional annotation was read, or the refusal is the machine's
   abbrev pub ReadsOpened : Opener → Parser X I → Parser X I → Result (Option RustAnn) Fault → Type 0
   ReadsOpened opener a b r = MatchResult r (λ n. GivesOpened opener a b n)
-      (λ e. Blames e (λ o. (st : State) (c : AnnotationPosition) (other : TokenKind → Turn)
+      (λ e. Blames e (λ o. (st : State) (c : AnnotationPosition) (other : TokenKind → Transition)
       → StandsBefore text a.reader st (opens_ann opener c other) → Came text steps a.reader (at st) o))
 
   -- a parameter was read, after others
@@ -105,13 +105,13 @@ module _ {X I : Type 0} (text : X → List ℕ) (steps : I → Option (Result (T
     pub keeps : KeepsTree (λ w. map param_of w.items) wholes_of_params a.deep b.deep v params
     pub ready : IsReady can left b.reader
     pub later : left_in left b.reader < left_in left a.reader
-    pub leads : (owner : Owner) (d : DefStart) → is_method owner ≡ method
+    pub leads : (owner : FunctionOwner) (d : DefStart) → is_method owner ≡ method
         → Onward text steps a.reader b.reader (at (params_of owner d)) (at (params_read d params))
 
   -- the parameters of a function or method and their parentheses were read, or the refusal is the machine's
   abbrev pub ReadsSignature : Bool → Parser X I → Parser X I → Result (Vec RustParam Global) Fault → Type 0
   ReadsSignature method a b r = MatchResult r (λ v. GivesSignature method a b v)
-      (λ e. Blames e (λ o. (owner : Owner) (d : DefStart) → is_method owner ≡ method
+      (λ e. Blames e (λ o. (owner : FunctionOwner) (d : DefStart) → is_method owner ≡ method
       → Came text steps a.reader (at (params_of owner d)) o))
 
   -- a function or method was read, from after its `def`
@@ -120,11 +120,11 @@ module _ {X I : Type 0} (text : X → List ℕ) (steps : I → Option (Result (T
     pub keeps : KeepsTree func_of wholes_of_def a.deep b.deep f function
     pub ready : IsReady can left b.reader
     pub later : left_in left b.reader < left_in left a.reader
-    pub leads : (owner : Owner) (first : Place) → is_method owner ≡ method
+    pub leads : (owner : FunctionOwner) (first : Place) → is_method owner ≡ method
         → Onward text steps a.reader b.reader (at (def_due owner first)) (at (after_def owner first function))
 
   -- a function or method was read, from after its `def`, or the refusal is the machine's
   abbrev pub ReadsFunction : Bool → Parser X I → Parser X I → Result RustFuncDef Fault → Type 0
   ReadsFunction method a b r = MatchResult r (λ f. GivesFunction method a b f)
-      (λ e. Blames e (λ o. (owner : Owner) (first : Place) → is_method owner ≡ method
+      (λ e. Blames e (λ o. (owner : FunctionOwner) (first : Place) → is_method owner ≡ method
       → Came text steps a.reader (at (def_due owner first)) o))

@@ -17,7 +17,7 @@ use Rattle.pc_tree.specs.Tree.{Expr, no_anns, Stmt, conditional, Stmts, no_stmts
 use Rattle.pc_tree.specs.Tree.{stmt_of_kind, stmts_of_list}
 use Rattle.pc_tree.specs.Depth.{whole_expr, wholes_of_stmt, wholes_of_stmts, wholes_of_branches}
 use Rattle.pc_tree.specs.Lists.{branches_of_list}
-use Rattle.pc_grammar.specs.Machine.{at, turn, stop_at, short}
+use Rattle.pc_grammar.specs.Machine.{at, transition, stop_at, short}
 use Rattle.pc_grammar.specs.Machine.Kinds.{Lead as Joint, leads_pass, leads_break, leads_continue, leads_return}
 use Rattle.pc_grammar.specs.Machine.Kinds.{leads_assert, leads_while, leads_for, leads_if, leads_out, leads_other}
 use Rattle.pc_grammar.specs.Machine.Kinds.{lead_of}
@@ -31,8 +31,8 @@ use Rattle.pc_reader.specs.Reading.{Blames, Came, Onward, IsReady, IsAhead, lexe
 use Rattle.pc_parse.specs.declared.parser.Parser.{Parser}
 use Rattle.pc_parse.specs.declared.statement.Lead.{Lead}
 use Rattle.pc_parse.specs.declared.statement.Lead.TheVariants as rust
-use Rattle.pc_parse.specs.declared.statement.Word.{Word}
-use Rattle.pc_parse.specs.declared.statement.Word.TheVariants as alone
+use Rattle.pc_parse.specs.declared.statement.OneWordStatement.{OneWordStatement}
+use Rattle.pc_parse.specs.declared.statement.OneWordStatement.TheVariants as alone
 use Rattle.pc_parse.specs.Internal.WholeTrees.{KeepsTree, deep_after}
 
 -- the beginning of a statement, as the machine names it
@@ -58,7 +58,7 @@ Heads begun nest = (p : Part) (site : Site) (e : Ending)
     → finish_stmt begun p site e ≡ at_colon (suite_of (nested_in site (nest p.tree))) e
 
 -- the statement that is this word
-abbrev pub kind_of_word : Word → StmtKind
+abbrev pub kind_of_word : OneWordStatement → StmtKind
 kind_of_word alone.Pass = statement.Pass
 kind_of_word alone.Break = statement.Break
 kind_of_word alone.Continue = statement.Continue
@@ -82,7 +82,7 @@ module _ {X I : Type 0} (text : X → List ℕ) where
   pub record LineEnds (a : Parser X I) (st next : State) : Type 0 where
     pub unfinished : stop_at st ≡ short
     pub turns : (t : Token X) → a.reader.ahead ≡ Some t
-        → turn st (lexeme text t) t.kind ≡ on (same_kind t.kind kind.Newline) next stuck
+        → transition st (lexeme text t) t.kind ≡ on (same_kind t.kind kind.Newline) next stuck
 
 module _ {X I : Type 0} (text : X → List ℕ) (steps : I → Option (Result (Token X) Fault) → I → Type 0)
     (can : I → Type 0) (left : I → Count) where

@@ -8,7 +8,7 @@ use Rattle.pc_tree.specs.declared.tree.Ann.{Ann as RustAnn}
 use Rattle.pc_tree.specs.Tree.{Ann, no_anns, ann_of}
 use Rattle.pc_tree.specs.Depth.{Whole, whole_expr, whole_ann, first_too_deep}
 use Rattle.pc_grammar.specs.Grammar.{first_place}
-use Rattle.pc_grammar.specs.Machine.{at, turn, stop_at, short}
+use Rattle.pc_grammar.specs.Machine.{at, transition, stop_at, short}
 use Rattle.pc_grammar.specs.Machine.Kinds.{Follow, ends, follow_of, Ending, no_ending}
 use Rattle.pc_grammar.specs.Machine.States.{Part, ExpressionPosition, AnnotationPosition, whole, ann_whole, State}
 use Rattle.pc_grammar.specs.Machine.States.{part_due, operand, have}
@@ -61,7 +61,7 @@ module _ {X I : Type 0} (text : X → List ℕ) (steps : I → Option (Result (T
         → Onward text steps a.reader b.reader (at (operand (whole c))) (at (have o.level part (whole c)))
     -- the turn at the token after it
     pub goes : (c : ExpressionPosition) (t : Token X) → b.reader.ahead ≡ Some t
-        → turn (have o.level part (whole c)) (lexeme text t) t.kind ≡ finish c part (ending_of t.kind)
+        → transition (have o.level part (whole c)) (lexeme text t) t.kind ≡ finish c part (ending_of t.kind)
 
   -- a whole expression was read, or the refusal is the machine's
   abbrev pub ReadsWhole : Parser X I → Parser X I → Result Operand Fault → Type 0
@@ -80,7 +80,7 @@ module _ {X I : Type 0} (text : X → List ℕ) (steps : I → Option (Result (T
     pub leads : (c : AnnotationPosition)
         → Onward text steps a.reader b.reader (at (part_due no_anns [] (ann_whole c))) (at (behind c))
     pub goes : (c : AnnotationPosition) (t : Token X) → b.reader.ahead ≡ Some t
-        → turn (behind c) (lexeme text t) t.kind ≡ finish_ann c annotation t.kind
+        → transition (behind c) (lexeme text t) t.kind ≡ finish_ann c annotation t.kind
 
   -- a whole annotation was read, or the refusal is the machine's
   abbrev pub ReadsAnn : Parser X I → Parser X I → Result RustAnn Fault → Type 0

@@ -12,14 +12,14 @@ use Rattle.pc_token.specs.Lexeme.{Lexeme}
 use Rattle.pc_token.specs.declared.token.Operator.{Operator as Bracket}
 use Rattle.pc_tree.specs.declared.tree.Name.{Name as RustName}
 use Rattle.pc_tree.specs.Tree.{Name, Expr, Exprs, Keywords, no_keywords, name_of}
-use Rattle.pc_grammar.specs.Grammar.{name_at, first_place}
+use Rattle.pc_grammar.specs.Grammar.{name_of_token, first_place}
 use Rattle.pc_grammar.specs.Machine.{at}
 use Rattle.pc_grammar.specs.Machine.Kinds.{Infix as Operator, Link as Joint, Follow, link, a_dot, calls, indexes}
-use Rattle.pc_grammar.specs.Machine.Kinds.{follow_of, Start, a_name, a_number, a_string, a_truth, a_none, start_of}
-use Rattle.pc_grammar.specs.Machine.States.{Part, Prefix as Sign, minus, denial, Head, in_tuple, in_list, in_call}
+use Rattle.pc_grammar.specs.Machine.Kinds.{follow_of, Start, a_name, a_number, a_string, a_truth, a_none, operand_start}
+use Rattle.pc_grammar.specs.Machine.States.{Part, Prefix as Sign, minus, denial, BracketPurpose, in_tuple, in_list, in_call}
 use Rattle.pc_grammar.specs.Machine.States.{Stack}
 use Rattle.pc_grammar.specs.Machine.States.{joining, naming, State, item_due, operand, have, identified, go}
-use Rattle.pc_grammar.specs.Machine.Expressions.{rank, own_of, own_of_link, left_of_link, prefix_level, head_tree}
+use Rattle.pc_grammar.specs.Machine.Expressions.{needed_level, own_of, own_of_link, left_of_link, prefix_level, head_tree}
 use Rattle.pc_grammar.specs.Machine.Expressions.{call_part, operand_turn}
 use Rattle.pc_reader.specs.declared.reader.Reader.{Reader}
 use Rattle.pc_reader.specs.declared.operand.Operand.{Operand}
@@ -64,12 +64,12 @@ pub record HasLink {X : Type 0} (need level : ℕ) (l : Joint) (a : Option (Toke
 -- the stack allows this sign: `not` only if nothing open binds tighter
 abbrev pub TakesSign : Sign → Stack → Type 0
 TakesSign minus s = Unit {0}
-TakesSign denial s = rank s ≤ 2
+TakesSign denial s = needed_level s ≤ 2
 
 -- an operand is due, and no sign that it may have is ahead
 pub record IsPrimary {X I : Type 0} (a : Reader X I) (s : Stack) : Type 0 where
   pub plain : IsAhead (kind.Operator sign.Minus) a.ahead ≡ false
-  pub undenied : (2 < rank s) ⊎ (IsAhead (kind.Keyword word.Not) a.ahead ≡ false)
+  pub undenied : (2 < needed_level s) ⊎ (IsAhead (kind.Keyword word.Not) a.ahead ≡ false)
 
 -- an operand of a single token is due: no sign that it may have is ahead, and no bracket
 pub record IsSingle {X I : Type 0} (a : Reader X I) (s : Stack) : Type 0 where
@@ -90,17 +90,17 @@ is_value_start _ = false
 -- the token ahead is an operand by itself
 abbrev pub value_ahead : {X : Type 0} → Option (Token X) → Bool
 value_ahead None = false
-value_ahead (Some t) = is_value_start (start_of t.kind)
+value_ahead (Some t) = is_value_start (operand_start t.kind)
 
 -- the operand is the value of this token
 pub record IsValue (t : Lexeme) (o : Operand) : Type 0 where
   pub part : Part
   pub keeps : KeepsPart o part
   pub begins : first_place part.tokens ≡ t.place
-  pub leads : (s : Stack) → operand_turn s t (start_of t.kind) ≡ go (have 7 part s)
+  pub leads : (s : Stack) → operand_turn s t (operand_start t.kind) ≡ go (have 7 part s)
 
 -- the bracket that closes items other than arguments
-abbrev pub Closes : Head → Bracket → Type 0
+abbrev pub Closes : BracketPurpose → Bracket → Type 0
 Closes in_tuple o = o ≡ sign.RightParenthesis
 Closes in_list o = o ≡ sign.RightBracket
 Closes (in_call e) o = ⊥
@@ -118,7 +118,7 @@ pub record HasAppliedSigns (x : Sign) (ts : List Lexeme) (p : Part) (o : Operand
 module _ {X I : Type 0} (text : X → List ℕ) (steps : I → Option (Result (Token X) Fault) → I → Type 0)
     (can : I → Type 0) (left : I → Count) where
   -- an operand of at least this level was read, on any stack that fits
-  pub record Gives (fits : Stack → Type 0) (level : ℕ) (a b : Reader X I) (o : Operand) : Type 0 where
+  pub record GivesOperand (fits : Stack → Type 0) (level : ℕ) (a b : Reader X I) (o : Operand) : Type 0 where
     pub part : Part
     pub keeps : KeepsPart o part
     pub low : level ≤ o.level
@@ -130,7 +130,7 @@ module _ {X I : Type 0} (text : X → List ℕ) (steps : I → Option (Result (T
   -- an operand of at least this level was read, or the refusal is the machine's
   abbrev pub ReadsOperand : (Stack → Type 0) → ℕ → Reader X I → Reader X I → Result Operand Fault → Type 0
   ReadsOperand fits level a b r =
-      MatchResult r (λ o. Gives fits level a b o)
+      MatchResult r (λ o. GivesOperand fits level a b o)
       (λ e. Blames e (λ o. (s : Stack) → fits s → Came text steps a (at (operand s)) o))
 
   -- the token ahead, if any, begins this operator
@@ -143,7 +143,7 @@ module _ {X I : Type 0} (text : X → List ℕ) (steps : I → Option (Result (T
     pub own : own_of op ≡ own_of_link l
     pub ready : IsReady can left b
     pub later : left_in left b < left_in left a
-    pub leads : IsLink l a → (level : ℕ) (p : Part) (s : Stack) → left_of_link l ≤ level → rank s ≤ own_of_link l
+    pub leads : IsLink l a → (level : ℕ) (p : Part) (s : Stack) → left_of_link l ≤ level → needed_level s ≤ own_of_link l
         → Onward text steps a b (at (have level p s)) (at (operand (joining op p tokens s)))
 
   -- the `is` of `is None` or `is not None` was read
@@ -152,14 +152,14 @@ module _ {X I : Type 0} (text : X → List ℕ) (steps : I → Option (Result (T
     pub own : own_of_link l ≡ 3
     pub ready : IsReady can left b
     pub later : left_in left b < left_in left a
-    pub leads : IsLink l a → (level : ℕ) (p : Part) (s : Stack) → left_of_link l ≤ level → rank s ≤ own_of_link l
+    pub leads : IsLink l a → (level : ℕ) (p : Part) (s : Stack) → left_of_link l ≤ level → needed_level s ≤ own_of_link l
         → Onward text steps a b (at (have level p s)) (at (identified p (token ∷ []) s))
 
   -- an operator between two operands, or `is`, was read, or the refusal is the machine's
   abbrev pub ReadsInfix : Joint → Reader X I → Reader X I → Result (Option Infix) Fault → Type 0
   ReadsInfix l a b r = MatchResult r (λ i. MatchOption i (GivesIs l a b) (λ op. GivesInfix l a b (infix_of op)))
       (λ e. Blames e (λ o. IsLink l a → (level : ℕ) (p : Part) (s : Stack) → left_of_link l ≤ level
-      → rank s ≤ own_of_link l → Came text steps a (at (have level p s)) o))
+      → needed_level s ≤ own_of_link l → Came text steps a (at (have level p s)) o))
 
   -- the operand was continued, from states after it
   pub record OperandGoesOn {K : Type 0} (st : K → Part → Stack → State) (level : ℕ) (a b : Reader X I) (o o' : Operand)
@@ -206,7 +206,7 @@ module _ {X I : Type 0} (text : X → List ℕ) (steps : I → Option (Result (T
     pub token : Token X
     pub takes : Takes text steps can left a b token
     pub is : token.kind ≡ kind.Name
-    pub name : name_of n ≡ name_at (lexeme text token)
+    pub name : name_of n ≡ name_of_token (lexeme text token)
 
   -- a name was read, or the refusal is the machine's where only a name fits
   abbrev pub ReadsName : Reader X I → Reader X I → Result RustName Fault → Type 0
@@ -214,24 +214,24 @@ module _ {X I : Type 0} (text : X → List ℕ) (steps : I → Option (Result (T
       (λ e. Blames e (λ o. (st : State) → NeedsKind text kind.Name st a → Came text steps a (at st) o))
 
   -- more items were read, up to the bracket that closes them
-  pub record ListsOn (a b : Reader X I) (l : Listed) (h : Head) (xs : Exprs) (ts : List Lexeme) : Type 0 where
+  pub record ListsOn (a b : Reader X I) (l : Listed) (h : BracketPurpose) (xs : Exprs) (ts : List Lexeme) : Type 0 where
     pub items : Exprs
     pub more : List Lexeme
     pub keeps : KeepsItems l.items items
     pub ends : Ends more l.end
     pub leads : (s : Stack) → Onward text steps a b (at (item_due h xs ts s))
-        (at (have 7 (Rattle.pc_grammar.specs.Machine.Expressions.part (head_tree h items) (ts ++ more)) s))
+        (at (have 7 (Rattle.pc_grammar.specs.Machine.Expressions.bare_part (head_tree h items) (ts ++ more)) s))
 
   -- items were read after those already kept, up to this bracket
   pub record GivesItems (close : Bracket) (a b : Reader X I) (some : Items) (l : Listed) : Type 0 where
     pub ready : IsReady can left b
     pub later : left_in left b < left_in left a
-    pub lists : (h : Head) (xs : Exprs) (ts : List Lexeme) → Closes h close → KeepsItems some xs → ListsOn a b l h xs ts
+    pub lists : (h : BracketPurpose) (xs : Exprs) (ts : List Lexeme) → Closes h close → KeepsItems some xs → ListsOn a b l h xs ts
 
   -- items were read up to this bracket, or the refusal is the machine's
   abbrev pub ReadsItems : Bracket → Reader X I → Reader X I → Items → Result Listed Fault → Type 0
   ReadsItems close a b some r = MatchResult r (λ l. GivesItems close a b some l)
-      (λ e. Blames e (λ o. (h : Head) (xs : Exprs) (ts : List Lexeme) (s : Stack) → Closes h close
+      (λ e. Blames e (λ o. (h : BracketPurpose) (xs : Exprs) (ts : List Lexeme) (s : Stack) → Closes h close
       → Came text steps a (at (item_due h xs ts s)) o))
 
   -- arguments by name were read, up to the closing parenthesis

@@ -4,7 +4,7 @@ use Rattle.std.specs.Iterator.{Count}
 use Rattle.pc_source.specs.declared.fault.Fault.{Fault}
 use Rattle.pc_token.specs.declared.token.Token.{Token}
 use Rattle.pc_token.specs.declared.token.TokenKind.{TokenKind}
-use Rattle.pc_grammar.specs.Machine.{at, turn, stop_at, short}
+use Rattle.pc_grammar.specs.Machine.{at, transition, stop_at, short}
 use Rattle.pc_grammar.specs.Machine.Kinds.{Fixed, a_kind, a_form, is_fixed}
 use Rattle.pc_grammar.specs.Machine.Lines.{due}
 use Rattle.pc_grammar.specs.Machine.States.{State, stuck}
@@ -20,7 +20,7 @@ IsFormAhead text form (Some t) = is_fixed (a_form form) (lexeme text t) t.kind
 pub record NeedsForm {X I : Type 0} (text : X → List ℕ) (form : List ℕ) (st : State) (a : Reader X I) : Type 0 where
   pub unfinished : stop_at st ≡ short
   pub stuck_at : (t : Token X) → a.ahead ≡ Some t → is_fixed (a_form form) (lexeme text t) t.kind ≡ false
-      → turn st (lexeme text t) t.kind ≡ stuck
+      → transition st (lexeme text t) t.kind ≡ stuck
 
 -- fixed tokens of these kinds, in order
 abbrev pub kinds_of : List TokenKind → List Fixed

@@ -13,7 +13,7 @@ use Rattle.pc_tree.specs.declared.tree.Literal.{Literal as RustLiteral}
 use Rattle.pc_tree.specs.Tree.{Literal, literal_of, option_literal_of}
 use Rattle.pc_grammar.specs.Machine.{at}
 use Rattle.pc_grammar.specs.Machine.Kinds.{same_kind}
-use Rattle.pc_grammar.specs.Machine.States.{LiteralContext, State, literal_due, minus_read, literal_read, Turn, go, on}
+use Rattle.pc_grammar.specs.Machine.States.{LiteralContext, State, literal_due, minus_read, literal_read, Transition, go, on}
 use Rattle.pc_grammar.specs.Machine.Finishing.{finish_literal}
 use Rattle.pc_grammar.specs.Machine.Lines.{literal_turn}
 use Rattle.pc_reader.specs.declared.reader.Reader.{Reader}
@@ -39,11 +39,11 @@ abbrev pub IsLiteral : Lexeme → RustLiteral → Type 0
 IsLiteral t l = (c : LiteralContext) → literal_turn c t t.kind ≡ go (literal_read c (literal_of l))
 
 -- the turn where a default is optional: `=` begins it, any other token does what it does without one
-abbrev pub opens_literal : LiteralContext → (TokenKind → Turn) → TokenKind → Turn
+abbrev pub opens_literal : LiteralContext → (TokenKind → Transition) → TokenKind → Transition
 opens_literal c other k = on (same_kind k (kind.Operator sign.Equal)) (literal_due c) (other k)
 
 -- the turn after an optional default
-abbrev pub or_literal : LiteralContext → (TokenKind → Turn) → Option Literal → TokenKind → Turn
+abbrev pub or_literal : LiteralContext → (TokenKind → Transition) → Option Literal → TokenKind → Transition
 or_literal c other None k = other k
 or_literal c other (Some l) k = finish_literal c l k
 
@@ -73,12 +73,12 @@ module _ {X I : Type 0} (text : X → List ℕ) (steps : I → Option (Result (T
   pub record GivesDefault (a b : Reader X I) (l : Option RustLiteral) : Type 0 where
     pub ready : IsReady can left b
     pub later : left_in left b ≤ left_in left a
-    pub leads : (st : State) (c : LiteralContext) (other : TokenKind → Turn)
+    pub leads : (st : State) (c : LiteralContext) (other : TokenKind → Transition)
         → StandsBefore text a st (opens_literal c other)
         → LeadsTo text steps a b st (or_literal c other (option_literal_of l))
 
   -- an optional default was read, or the refusal is the machine's
   abbrev pub ReadsDefault : Reader X I → Reader X I → Result (Option RustLiteral) Fault → Type 0
   ReadsDefault a b r = MatchResult r (λ l. GivesDefault a b l)
-      (λ e. Blames e (λ o. (st : State) (c : LiteralContext) (other : TokenKind → Turn)
+      (λ e. Blames e (λ o. (st : State) (c : LiteralContext) (other : TokenKind → Transition)
       → StandsBefore text a st (opens_literal c other) → Came text steps a (at st) o))

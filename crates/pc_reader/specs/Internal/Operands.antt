@@ -7,7 +7,7 @@ use Rattle.pc_tree.specs.Tree.{Name, Expr, name, attribute, index, is_none, is_n
 use Rattle.pc_tree.specs.Depth.{depth_of, place_of}
 use Rattle.pc_grammar.specs.Machine.Kinds.{Infix as Operator, arithmetic, comparison, both, either}
 use Rattle.pc_grammar.specs.Machine.States.{Part, Prefix as Sign, minus, denial, Stack, applying}
-use Rattle.pc_grammar.specs.Machine.Expressions.{part, applied}
+use Rattle.pc_grammar.specs.Machine.Expressions.{bare_part, applied}
 use Rattle.pc_reader.specs.declared.operand.Operand.{Operand}
 use Rattle.pc_reader.specs.declared.operand.Infix.{Infix}
 use Rattle.pc_reader.specs.declared.operand.Infix.TheVariants as rust_infix
@@ -48,11 +48,11 @@ pub data Form : Type 0 where
   another : Form
 
 -- the form of an expression
-abbrev pub form_of : Expr → Form
-form_of (name n) = a_name n
-form_of (attribute p e f) = an_attribute
-form_of (index p e i) = an_index
-form_of _ = another
+abbrev pub form_of_expr : Expr → Form
+form_of_expr (name n) = a_name n
+form_of_expr (attribute p e f) = an_attribute
+form_of_expr (index p e i) = an_index
+form_of_expr _ = another
 
 -- the operand keeps the part; of a tree that is too deep, only its form and that it is too deep
 pub record KeepsPart (o : Operand) (p : Part) : Type 0 where
@@ -62,7 +62,7 @@ pub record KeepsPart (o : Operand) (p : Part) : Type 0 where
   pub plain : o.plain ≡ p.plain
   pub depth : o.depth ≡ min 65 (depth_of p.tree)
   pub kept : o.depth ≤ 64 → expr_of o.expr ≡ p.tree
-  pub form : form_of (expr_of o.expr) ≡ form_of p.tree
+  pub form : form_of_expr (expr_of o.expr) ≡ form_of_expr p.tree
 
 -- the operand that is this expression at its place, without parentheses
 abbrev pub node_of : RustExpr → Place → ℕ → ℕ → Operand
@@ -78,7 +78,7 @@ node_of expr place level depth = record {
 
 -- the operand is the node that any tokens between these bytes spell
 abbrev pub Builds : Operand → (Place → Expr) → ℕ → ℕ → Type 0
-Builds o make start end = (ts : List Lexeme) → Starts ts start → Ends ts end → KeepsPart o (part make ts)
+Builds o make start end = (ts : List Lexeme) → Starts ts start → Ends ts end → KeepsPart o (bare_part make ts)
 
 -- the part after these signs are applied to it, the last of them first
 abbrev pub applied_all : Sign → List Lexeme → Part → Part

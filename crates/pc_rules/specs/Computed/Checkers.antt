@@ -30,5 +30,5 @@ module _ {Store Ty : Type 0} (S : StoreOf Store Ty) where
     pub same_notes : new.found.ghost_name ≡ old.found.ghost_name
 
 -- a step of the checker appends these notes
-abbrev pub Finds : {Store Ty : Type 0} → (old new : TypingState Store Ty) → List Note → Type 0
-Finds old new notes = notes_of new.found.now ≡ notes_of old.found.now ++ notes
+abbrev pub AddsNotes : {Store Ty : Type 0} → (old new : TypingState Store Ty) → List Note → Type 0
+AddsNotes old new notes = notes_of new.found.now ≡ notes_of old.found.now ++ notes

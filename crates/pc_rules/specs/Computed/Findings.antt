@@ -86,9 +86,9 @@ abbrev pub flows_at : Place → FlowLabels → List Note
 flows_at p flows = flows_behind p [] flows
 
 -- the note of the type of a label at its place, if types are kept
-abbrev pub type_noted : (keeps shown : Test) → Place → Tree → List Note
-type_noted false shown p t = []
-type_noted true shown p t = typed shown p t ∷ []
+abbrev pub note_of_type : (keeps shown : Test) → Place → Tree → List Note
+note_of_type false shown p t = []
+note_of_type true shown p t = typed shown p t ∷ []
 
 -- notes with that of a bound name at its place after them, if types are kept: its declared type, and its current type
 -- after the binding, if it has a value then
@@ -98,7 +98,7 @@ name_after true found p d t = found ++ named p d t ∷ []
 
 -- the notes of a label at its place: its type, if types are kept, and then the findings of its codes
 abbrev pub label_at : (keeps shown : Test) → Place → Label → List Note
-label_at keeps shown p m = type_noted keeps shown p m.type ++ codes_at p m.codes
+label_at keeps shown p m = note_of_type keeps shown p m.type ++ codes_at p m.codes
 
 -- whether the type of a callee is shown: not for a name or an attribute
 abbrev pub shows : Expr → Test
@@ -112,8 +112,8 @@ module _ (keeps : Test) where
   whole e m parts = parts ++ label_at keeps true (place_of e) (whole_label e m)
 
   -- the notes in the parts of a callee, followed by those of its own label
-  abbrev pub called : (e : Expr) → Labels e → List Note → List Note
-  called e m parts = parts ++ label_at keeps (shows e) (place_of e) (whole_label e m)
+  abbrev pub callee_notes : (e : Expr) → Labels e → List Note → List Note
+  callee_notes e m parts = parts ++ label_at keeps (shows e) (place_of e) (whole_label e m)
 
   -- the notes in the parts of an expression, of items, of arguments, and of the entries of a dict
   abbrev mutual
@@ -143,7 +143,7 @@ module _ (keeps : Test) where
     found_in_parts (index p e i) m = whole e m.object (found_in_parts e m.object)
         ++ (whole i m.key (found_in_parts i m.key) ++ flows_at (place_of i) m.flows)
     found_in_parts (call p callee arguments keywords) m =
-        called callee m.callee (found_in_parts callee m.callee)
+        callee_notes callee m.callee (found_in_parts callee m.callee)
         ++ (found_in_arguments (is_instance_test callee arguments keywords) arguments m.arguments
         ++ (found_in_keywords keywords m.keywords ++ notes_of_code (second_place arguments p) m.second))
 
@@ -181,7 +181,7 @@ module _ (keeps : Test) where
 
   -- the notes under the labels of a callee
   abbrev pub callee_notes_under : (e : Expr) → Labels e → List Note
-  callee_notes_under e m = called e m (found_in_parts e m)
+  callee_notes_under e m = callee_notes e m (found_in_parts e m)
 
 -- a finding under labels that scope analysis does not report
 pub record IsOwn (e : Expr) (m : Labels e) (f : Finding) : Type 0 where

@@ -41,8 +41,8 @@ abbrev pub with_name : (bound : List ℕ → Test) → List ℕ → List ℕ →
 with_name bound name t = bytes_eq t name || bound t
 
 -- the test of the names in a set
-abbrev pub bound_in : {S : Type 0} → IndexSet (String Global) S → List ℕ → Test
-bound_in s t = is_one_of t (texts_in s)
+abbrev pub is_in_names : {S : Type 0} → IndexSet (String Global) S → List ℕ → Test
+is_in_names s t = is_one_of t (texts_in s)
 
 -- whether a text is bound as a name here: it is not reserved, and not bound already
 abbrev pub binds_text : (bound : List ℕ → Test) → List ℕ → Test

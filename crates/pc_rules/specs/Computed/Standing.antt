@@ -24,6 +24,7 @@ use Rattle.pc_rules.specs.declared.expr_context.ExprContext.{ExprContext}
 use Rattle.pc_rules.specs.declared.expr_context.Signature.{Signature as RustSignature}
 use Rattle.pc_rules.specs.declared.label.Label.{Label as RustLabel}
 use Rattle.pc_rules.specs.declared.label.Offer.{Offer as RustOffer}
+use Rattle.pc_rules.specs.Computed.ModuleParents.{class_parents}
 
 -- ---- the standing of an expression
 
@@ -91,8 +92,8 @@ arguments_find k is_test seat es = found_in_arguments k.keeps is_test es (items_
 unfoldable pub keys_in : Standing → (key value : Seat) → Entries → List Tree
 keys_in k key value es = key_types es (entries_in k key value es)
 
-unfoldable pub values_in : Standing → (key value : Seat) → Entries → List Tree
-values_in k key value es = value_types es (entries_in k key value es)
+unfoldable pub value_types_in : Standing → (key value : Seat) → Entries → List Tree
+value_types_in k key value es = value_types es (entries_in k key value es)
 
 unfoldable pub entries_find : Standing → (key value : Seat) → Entries → List Note
 entries_find k key value es = found_in_entries k.keeps es (entries_in k key value es)
@@ -128,7 +129,7 @@ module _ {Ty : Type 0} (tree : Ty → Tree) where
   -- the context that a setting means
   abbrev pub context_with : ExprContext Ty → Context
   context_with s = record {
-    bases = s.globals.now.outline.now.parents.now;
+    bases = class_parents s.globals.now;
     classes = classes_with tree s.globals.now.classes.now;
     functions = map (signature_with tree) s.globals.now.functions.now;
     constants = map tree s.globals.now.constants.now;
@@ -169,8 +170,8 @@ pub record HasGivenAll {Ty : Type 0} (has : Ty → Type 0) (tree : Ty → Tree) 
   pub constants : All has s.globals.now.constants.now
   pub declared : HasEach has s.declared.now
   pub env : HasEach has types
-  pub declared_well_formed : AreWellFormed s.globals.now.outline.now.parents.now (declared_of tree s.declared.now)
-  pub env_well_formed : IsWellFormedEnv s.globals.now.outline.now.parents.now (env_of tree types)
+  pub declared_well_formed : AreWellFormed (class_parents s.globals.now) (declared_of tree s.declared.now)
+  pub env_well_formed : IsWellFormedEnv (class_parents s.globals.now) (env_of tree types)
 
 module _ {Store Ty : Type 0} (has : Store → Ty → Type 0) (tree : Ty → Tree) where
   -- a label with a type of the store means this label, with each code once

@@ -10,7 +10,7 @@ use Rattle.pc_machine.specs.Steps.{next, breaking, continuing, leaves}
 use Rattle.pc_machine.specs.Plain.{Came, and_then, act, after_change}
 use Rattle.pc_machine.specs.Evaluation.{binds_local}
 use Rattle.pc_machine.specs.Runs.{plain_parts}
-use Rattle.pc_run.specs.Internal.Nodes.{node, exec_one, branches_in}
+use Rattle.pc_run.specs.Internal.Nodes.{charged_expr, exec_one, branches_in}
 use Rattle.pc_machine.specs.Performed.{empty_charged}
 use Rattle.pc_machine.specs.Machine.{progress_of, unit, flow_of, value_if_any}
 use Rattle.pc_run.specs.Internal.Nodes.{values_of_vec}
@@ -59,25 +59,25 @@ calls::eval_callee-returns-in-Name-clause-plain t c n lt = rw c.in-Name.is (c.ca
 pub evaluate::eval_node-returns-in-Tuple-clause-plain : goal.evaluate::eval_node-returns-in-Tuple-clause-plain
 evaluate::eval_node-returns-in-Tuple-clause-plain t c n lt =
     rw c.in-Tuple.is (tells_as value_of c.eval_tuple.result c.eval_tuple.new.machine _ _
-    (ap (λ x. node n x (progress_of c.args.machine.now)) (tuple_tree c.in-Tuple.place c.in-Tuple.items))
+    (ap (λ x. charged_expr n x (progress_of c.args.machine.now)) (tuple_tree c.in-Tuple.place c.in-Tuple.items))
     (rw c.deref.ensures.value at (c.eval_tuple.ensures.plain n lt)))
 
 pub evaluate::eval_node-returns-in-List-clause-plain : goal.evaluate::eval_node-returns-in-List-clause-plain
 evaluate::eval_node-returns-in-List-clause-plain t c n lt =
     rw c.in-List.is (tells_as value_of c.eval_list.result c.eval_list.new.machine _ _
-    (ap (λ x. node n x (progress_of c.args.machine.now)) (list_tree c.in-List.place c.in-List.items))
+    (ap (λ x. charged_expr n x (progress_of c.args.machine.now)) (list_tree c.in-List.place c.in-List.items))
     (rw c.deref-in-List.ensures.value at (c.eval_list.ensures.plain n lt)))
 
 pub evaluate::eval_node-returns-in-Dict-clause-plain : goal.evaluate::eval_node-returns-in-Dict-clause-plain
 evaluate::eval_node-returns-in-Dict-clause-plain t c n lt =
     rw c.in-Dict.is (tells_as value_of c.eval_dict.result c.eval_dict.new.machine _ _
-    (ap (λ x. node n x (progress_of c.args.machine.now)) (dict_tree c.in-Dict.place c.in-Dict.items))
+    (ap (λ x. charged_expr n x (progress_of c.args.machine.now)) (dict_tree c.in-Dict.place c.in-Dict.items))
     (rw c.deref-in-Dict.ensures.value at (c.eval_dict.ensures.plain n lt)))
 
 pub evaluate::eval_node-returns-in-Call-clause-plain : goal.evaluate::eval_node-returns-in-Call-clause-plain
 evaluate::eval_node-returns-in-Call-clause-plain t c n lt =
     rw c.in-Call.is (tells_as value_of c.eval_call.result c.eval_call.new.machine _ _
-    (ap (λ x. node n x (progress_of c.args.machine.now)) (call_tree c.in-Call.place c.in-Call.callee
+    (ap (λ x. charged_expr n x (progress_of c.args.machine.now)) (call_tree c.in-Call.place c.in-Call.callee
     c.in-Call.arguments c.in-Call.by_name)) (rw (
       c.deref-in-Call.ensures,
       c.deref-in-Call-2.ensures.value,

@@ -10,8 +10,8 @@ use Rattle.pc_machine.specs.Evaluation.{Members}
 use Rattle.pc_machine.specs.Machine.{literal_value, default_value, function_of}
 
 -- the items of a module in a plain run, in the order of the text
-abbrev pub items_in : ℕ → (imports_dataclass : Bool) → List Item → Step (Unit {0})
-items_in n imports_dataclass items = text.exec_items Step plain (plain_parts n) imports_dataclass items
+abbrev pub module_items_in : ℕ → (imports_dataclass : Bool) → List Item → Step (Unit {0})
+module_items_in n imports_dataclass items = text.exec_items Step plain (plain_parts n) imports_dataclass items
 
 -- a constant, a class or a def in a plain run
 abbrev pub item_in : ℕ → (imports_dataclass : Bool) → Item → Step (Unit {0})

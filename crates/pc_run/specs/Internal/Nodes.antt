@@ -22,8 +22,8 @@ use Rattle.pc_machine.specs.Evaluation as text
 use Rattle.pc_machine.specs.Evaluation.{call_form, instance_test, iterable_form}
 
 -- an expression in a plain run, after its charge
-abbrev pub node : ℕ → Expr → Step Value
-node n e = text.eval_node Step plain (plain_parts n) e
+abbrev pub charged_expr : ℕ → Expr → Step Value
+charged_expr n e = text.eval_node Step plain (plain_parts n) e
 
 -- operands, arguments and items in a plain run, from left to right
 abbrev pub all_of : ℕ → Exprs → Step (List Value)

@@ -4,7 +4,7 @@ use Rattle.std.specs.Global.{Global}
 use Rattle.pc_types.specs.Tree.{Tree}
 use Rattle.pc_rules.specs.declared.expr_context.Signature.{Signature as RustSignature}
 use Rattle.pc_rules.specs.Context.{Signature}
-use Rattle.pc_rules.specs.Computed.Signatures.{ItemsReached, bound_in}
+use Rattle.pc_rules.specs.Computed.Signatures.{ItemsReached, is_in_names}
 use Rattle.pc_callables.specs.SignaturesRead.{HasSignatures, signatures_with}
 use Rattle.pc_signatures.specs.declared.constants.ItemsRead.{ItemsRead}
 
@@ -18,7 +18,7 @@ module _ {Ty : Type 0} (tree : Ty → Tree) where
   reached_with w = record {
     constants = map tree w.constants.items;
     classes = length w.methods.items;
-    bound = bound_in w.bound;
+    bound = is_in_names w.bound;
   }
 
 module _ {Ty : Type 0} (has : Ty → Type 0) where

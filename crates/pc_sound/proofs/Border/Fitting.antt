@@ -14,7 +14,7 @@ use Rattle.pc_machine.specs.State.{State}
 use Rattle.pc_machine.specs.Calls.{NamedValue}
 use Rattle.pc_sound.specs.Values.{HeapTyping}
 use Rattle.pc_sound.specs.Typed.{has_type, is_well, suits}
-use Rattle.pc_sound.specs.Border.{Demand, constant_demands, argument_demands, are_met, typing_found, checked}
+use Rattle.pc_sound.specs.Border.{ValueDemand, constant_demands, argument_demands, are_met, typing_found, passing_typing}
 use Rattle.pc_sound.specs.OutsideCalls.{IsReady}
 use Rattle.pc_sound.specs.Fitting.{AreMet, IsFitting, FittingIsRight, FittingCallsAreSound}
 use Rattle.pc_sound.specs.Fitting.{FittingSequencesAreSound}
@@ -26,20 +26,20 @@ passed : (b : Test) (k found : HeapTyping) → (if b then Some k else None) ≡ 
 passed true k found e = (refl, same_Some _ _ e)
 passed false k found e = absurd (none-some _ e)
 
-met : (bases : Bases) (k : HeapTyping) (ds : List Demand) → are_met bases k ds ≡ true → AreMet bases k ds
+met : (bases : Bases) (k : HeapTyping) (ds : List ValueDemand) → are_met bases k ds ≡ true → AreMet bases k ds
 met bases k [] e = tt
 met bases k (d ∷ ds) e =
     let h = and_parts (has_type bases k d.type d.value) (are_met bases k ds) e in
     (typed bases k d.type d.value h.0, met bases k ds h.1)
 
 module _ (m : Module) (labels : Labelling m) (k : HeapTyping) (s : State) (ready : IsReady m labels k s) (heap : Heap)
-    (objects : List Demand) (params : List TypedParameter) (values : List Value) (named : List NamedValue) where
+    (objects : List ValueDemand) (params : List TypedParameter) (values : List Value) (named : List NamedValue) where
   -- the demands on the constants
-  abbrev OfConstants : List Demand
+  abbrev OfConstants : List ValueDemand
   OfConstants = constant_demands (constants_in m.items) (constant_types m m.items labels) s.globals
 
   -- a heap typing that passes
-  found_fits : (tried found : HeapTyping) → checked m tried heap (OfConstants ++ objects) params values named
+  found_fits : (tried found : HeapTyping) → passing_typing m tried heap (OfConstants ++ objects) params values named
       ≡ Some found → IsFitting m labels found (record s { heap = heap }) objects params values named
   found_fits tried found e =
       let h = passed (is_well (bases_of m) (classes_of m) tried heap

@@ -14,14 +14,14 @@ use Rattle.pc_machine.specs.Names.{global_by_name}
 use Rattle.pc_sound.specs.Values.{HeapTyping, HasType}
 use Rattle.pc_sound.specs.Loaded.{IsLoaded}
 use Rattle.pc_sound.specs.Typed.{has_type}
-use Rattle.pc_sound.specs.Border.{Demand, bound_demand, constant_demands, are_met}
+use Rattle.pc_sound.specs.Border.{ValueDemand, bound_demand, constant_demands, are_met}
 use Rattle.pc_sound.proofs.Border.TypedValues.{typed}
 use Rattle.pc_sound.proofs.Modules.MainWorld.{made_again, class_again}
 use Rattle.pc_sound.proofs.Modules.ModuleNames.{constant_named}
 
 module _ (bases : Bases) (k : HeapTyping) where
   -- demands that are met are met in each part
-  pub met_parts : (xs ys : List Demand) → are_met bases k (xs ++ ys) ≡ true
+  pub met_parts : (xs ys : List ValueDemand) → are_met bases k (xs ++ ys) ≡ true
       → (are_met bases k xs ≡ true) × (are_met bases k ys ≡ true)
   met_parts [] ys e = (refl, e)
   met_parts (x ∷ xs) ys e =

@@ -18,12 +18,12 @@ use Rattle.pc_machine.specs.Calls.{NamedValue, value_named}
 use Rattle.pc_sound.specs.Values.{HeapTyping, Recorded, a_list, a_dict, a_class, Equal, IsList, IsDict, IsInstance}
 use Rattle.pc_sound.specs.Values.{HasType, HaveTypes, AllHave, EntriesHave, SlotsHave, CellHas, CellAt, IsWell}
 use Rattle.pc_sound.specs.Arguments.{TakesNamed, Fills, AllFor, Suits}
-use Rattle.pc_sound.specs.Typed.{is_same_type, is_list_of, is_dict_of, is_instance_of, has_type, have_types, all_have}
+use Rattle.pc_sound.specs.Typed.{is_same_as_tested, is_list_of, is_dict_of, is_instance_of, has_type, have_types, all_have}
 use Rattle.pc_sound.specs.Typed.{entries_have, slots_have, cell_has, cells_have, is_well, takes_named, fills, all_for}
 use Rattle.pc_sound.specs.Typed.{suits}
 use Rattle.pc_sound.proofs.Values.Joins.{same_types}
 
-same_is_equal : (bases : Bases) (s t : Tree) → is_same_type s t ≡ true → Equal bases s t
+same_is_equal : (bases : Bases) (s t : Tree) → is_same_as_tested s t ≡ true → Equal bases s t
 same_is_equal bases s t e =
     let is : erase s ≡ erase t = same_types (erase s) (erase t) e in
     record {
@@ -41,7 +41,7 @@ module _ (bases : Bases) (k : HeapTyping) where
   dict_is : (l : ℕ) (s t : Tree) (o : Option Recorded) → slice_get k l ≡ o → is_dict_of o s t ≡ true
       → IsDict bases k l s t
   dict_is l s t (Some (a_dict x y)) is e =
-      let h = and_parts (is_same_type x s) (is_same_type y t) e in
+      let h = and_parts (is_same_as_tested x s) (is_same_as_tested y t) e in
       record {
         keys = x;
         values = y;

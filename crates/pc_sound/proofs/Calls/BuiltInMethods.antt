@@ -15,7 +15,7 @@ use Rattle.pc_class.specs.Facts as facts
 use Rattle.pc_flow.specs.Environment.{Env, join_or_object}
 use Rattle.pc_rules.specs.Context.{Signature}
 use Rattle.pc_rules.specs.Calls.{GivenArguments, arguments_given, count_exprs, is_suited, CallOffer, signature_offer}
-use Rattle.pc_rules.specs.Calls.{fails_at_callee, builtin_signature, type_at, list_offers, dict_offers, Seat}
+use Rattle.pc_rules.specs.Calls.{fails_at_callee, builtin_signature, parameter_type, list_offers, dict_offers, Seat}
 use Rattle.pc_rules.specs.Labels.{ItemsLabels, KeywordsLabels}
 use Rattle.pc_value.specs.Value as value
 use Rattle.pc_value.specs.Value.{Value, Gives, location, list_cell, Heap, seen, class_seen}
@@ -254,7 +254,7 @@ none_suits r (more_exprs e rest) kws is = absurd (too_many (count_exprs rest) _ 
 -- a value with the types of a seat by position has the type of the parameter there
 abbrev pub HasSeat : Bases → HeapTyping → Seat → Signature → ℕ → Type 0
 HasSeat bases k seat s i = (w : Value) → HasEach bases k seat.into w
-    → HasEach bases k (type_at (slice_get s.parameters i)) w
+    → HasEach bases k (parameter_type (slice_get s.parameters i)) w
 
 pub suited_performs :
     (bases : Bases) → AreSmaller bases → (k : HeapTyping) (v : Value) (method : BuiltinMethod) (s : Signature)

@@ -12,7 +12,7 @@ use Rattle.pc_scope.specs.Bindings.{texts}
 use Rattle.pc_scope.specs.Resolution.{is_one_of}
 use Rattle.pc_types.specs.Below.{Bases}
 use Rattle.pc_class.specs.Facts.{TypedParameter, field_by_name}
-use Rattle.pc_rules.specs.Calls.{once_each, position_of, is_free, are_filled, parameter_names}
+use Rattle.pc_rules.specs.Calls.{once_each, index_of_parameter, is_free, are_filled, parameter_names}
 use Rattle.pc_value.specs.Value.{Value}
 use Rattle.pc_value.specs.Texts.{same_text}
 use Rattle.pc_machine.specs.State as state
@@ -196,8 +196,8 @@ one_field : (p : TypedParameter) (ps : List TypedParameter) (word : List ℕ) (b
 one_field p ps word b e = ap (λ c. if c then Some p else field_by_name ps word) e
 
 one_position : (p : TypedParameter) (ps : List TypedParameter) (word : List ℕ) (b : Test) → bytes_eq word p.name ≡ b
-    → position_of (p ∷ ps) word ≡ (if b then Some zero else option_map suc (position_of ps word))
-one_position p ps word b e = ap (λ c. if c then Some zero else option_map suc (position_of ps word)) e
+    → index_of_parameter (p ∷ ps) word ≡ (if b then Some zero else option_map suc (index_of_parameter ps word))
+one_position p ps word b e = ap (λ c. if c then Some zero else option_map suc (index_of_parameter ps word)) e
 
 not_free_at_zero : (n : ℕ) → is_free (suc n) (Some zero) ≡ true → ⊥
 not_free_at_zero n e = absurd (grind (arith, nat_tests, e))
@@ -275,7 +275,7 @@ module _ (bases : Bases) (k : HeapTyping) (named : List NamedValue) (words : Lis
   -- all parameters
   pub suited_fills : (before : List (List ℕ)) (ps : List TypedParameter) (vs : List Value) → Distinct before ps
       → PositionalHave bases k ps vs → ((word : List ℕ) → is_one_of word words ≡ true
-      → is_free (length vs) (position_of ps word) ≡ true) → NamedBehind bases k [] ps named
+      → is_free (length vs) (index_of_parameter ps word) ≡ true) → NamedBehind bases k [] ps named
       → are_filled words (parameter_names (take (length vs) ps)) (drop (length vs) ps) ≡ true
       → Fills bases k ps vs named
   suited_fills before ps [] distinct positional free have all_filled = rest_fills before ps distinct
@@ -304,19 +304,19 @@ module _ (bases : Bases) (k : HeapTyping) (named : List NamedValue) (words : Lis
       none (Some w) e = absurd (not_both ((bytes_eq-Decides p.name p.name).1 refl)
           (other p.name (given_are p.name (named_among p.name named w e))))
 
-      behind_free : (word : List ℕ) → is_one_of word words ≡ true → is_free (length vs) (position_of ps word) ≡ true
-      behind_free word among = free_behind (length vs) (position_of ps word)
+      behind_free : (word : List ℕ) → is_one_of word words ≡ true → is_free (length vs) (index_of_parameter ps word) ≡ true
+      behind_free word among = free_behind (length vs) (index_of_parameter ps word)
           (sym (ap (is_free (suc (length vs))) (one_position p ps word false (other word among))) ∙ free word among)
 
       behind : NamedBehind bases k [] ps named
       behind word w q new e f = have word w q new e (one_field p ps word false
           (other word (given_are word (named_among word named w e))) ∙ f)
 
-  free_some : (n : ℕ) (ps : List TypedParameter) (word : List ℕ) → is_free n (position_of ps word) ≡ true
+  free_some : (n : ℕ) (ps : List TypedParameter) (word : List ℕ) → is_free n (index_of_parameter ps word) ≡ true
       → is_one_of word (parameter_names ps) ≡ true
-  free_some n ps word e = go (position_of ps word) refl e
+  free_some n ps word e = go (index_of_parameter ps word) refl e
     where
-      found : (ps : List TypedParameter) (i : ℕ) → position_of ps word ≡ Some i → is_one_of word (parameter_names ps)
+      found : (ps : List TypedParameter) (i : ℕ) → index_of_parameter ps word ≡ Some i → is_one_of word (parameter_names ps)
           ≡ true
       found [] i e = absurd (grind (arith, e))
       found (p ∷ ps) i e = at (bytes_eq word p.name) refl (λ j f. found ps j f)
@@ -325,18 +325,18 @@ module _ (bases : Bases) (k : HeapTyping) (named : List NamedValue) (words : Lis
           shifted None f = absurd (grind (arith, f))
           shifted (Some j) f = (j, refl)
 
-          at : (b : Test) → bytes_eq word p.name ≡ b → ((j : ℕ) → position_of ps word ≡ Some j
+          at : (b : Test) → bytes_eq word p.name ≡ b → ((j : ℕ) → index_of_parameter ps word ≡ Some j
               → is_one_of word (parameter_names ps) ≡ true) → is_one_of word (parameter_names (p ∷ ps)) ≡ true
           at true t others = ap (λ b. b || is_one_of word (parameter_names ps)) t
-          at false t others = let s = shifted (position_of ps word) (sym (one_position p ps word false t) ∙ e) in
+          at false t others = let s = shifted (index_of_parameter ps word) (sym (one_position p ps word false t) ∙ e) in
               or_right (bytes_eq word p.name) (is_one_of word (parameter_names ps)) (others s.0 s.1)
 
-      go : (o : Option ℕ) → position_of ps word ≡ o → is_free n o ≡ true → is_one_of word (parameter_names ps) ≡ true
+      go : (o : Option ℕ) → index_of_parameter ps word ≡ o → is_free n o ≡ true → is_one_of word (parameter_names ps) ≡ true
       go None e f = absurd (grind (arith, f))
       go (Some i) e f = found ps i e
 
   pub all_for : (n : ℕ) (ps : List TypedParameter) (more : List NamedValue)
-      → ((word : List ℕ) → is_one_of word (names_of more) ≡ true → is_free n (position_of ps word) ≡ true)
+      → ((word : List ℕ) → is_one_of word (names_of more) ≡ true → is_free n (index_of_parameter ps word) ≡ true)
       → AllFor more ps
   all_for n ps [] free = tt
   all_for n ps (a ∷ more) free = (
@@ -349,7 +349,7 @@ module _ (bases : Bases) (k : HeapTyping) (named : List NamedValue) (words : Lis
   -- a call that suits binds its arguments
   pub suited_binds : (ps : List state.FormalParameter) (qs : List TypedParameter) (vs : List Value)
       → DefaultsHave bases k ps qs → Distinct [] qs → PositionalHave bases k qs vs → NamedBehind bases k [] qs named
-      → ((word : List ℕ) → is_one_of word words ≡ true → is_free (length vs) (position_of qs word) ≡ true)
+      → ((word : List ℕ) → is_one_of word words ≡ true → is_free (length vs) (index_of_parameter qs word) ≡ true)
       → are_filled words (parameter_names (take (length vs) qs)) (drop (length vs) qs) ≡ true
       → Filled bases k qs (bound_arguments ps vs named)
   suited_binds ps qs vs d distinct positional have free all_filled = binds bases k named ps qs vs d

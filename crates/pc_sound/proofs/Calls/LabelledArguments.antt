@@ -18,8 +18,8 @@ use Rattle.pc_types.specs.Below.{Bases, Static, same}
 use Rattle.pc_class.specs.Facts.{TypedParameter, field_by_name}
 use Rattle.pc_class.specs.Overrides.{has_shape_of}
 use Rattle.pc_rules.specs.Context.{Signature}
-use Rattle.pc_rules.specs.Calls.{count_exprs, once_each, arguments_given, position_of, is_free, are_filled}
-use Rattle.pc_rules.specs.Calls.{parameter_names, is_suited, Seat, nowhere, type_at, CallOffer, signatures}
+use Rattle.pc_rules.specs.Calls.{count_exprs, once_each, arguments_given, index_of_parameter, is_free, are_filled}
+use Rattle.pc_rules.specs.Calls.{parameter_names, is_suited, Seat, nowhere, parameter_type, CallOffer, signatures}
 use Rattle.pc_rules.specs.Calls.{positional_seat, named_seat}
 use Rattle.pc_rules.specs.Labels.{ItemsLabels, KeywordsLabels}
 use Rattle.pc_value.specs.Value.{Value}
@@ -123,7 +123,7 @@ module _ (bases : Bases) (k : HeapTyping) where
   -- the values by position go into the types of the parameters there
   positional_have : (seat : ℕ → Seat) (es : Exprs) (m : ItemsLabels es) (vs : List Value) (ps : List TypedParameter)
       → ArgumentsHave bases k seat es m vs → ((i : ℕ) (v : Value) → HasEach bases k (seat i).into v
-      → HasEach bases k (type_at (slice_get ps i)) v) → length vs ≤ length ps → PositionalHave bases k ps vs
+      → HasEach bases k (parameter_type (slice_get ps i)) v) → length vs ≤ length ps → PositionalHave bases k ps vs
   positional_have seat no_exprs m [] ps h into short = tt
   positional_have seat no_exprs m (v ∷ vs) ps h into short = absurd h
   positional_have seat (more_exprs e rest) m [] ps h into short = tt
@@ -153,13 +153,13 @@ module _ (bases : Bases) (k : HeapTyping) where
 
       parts : (nat_le (count_exprs es) (length s.parameters) ≡ true)
           × (((s.takes_names || has_none (once_each [] (keyword_names kws))) ≡ true)
-          × ((list_all (λ word. is_free (count_exprs es) (position_of s.parameters word))
+          × ((list_all (λ word. is_free (count_exprs es) (index_of_parameter s.parameters word))
           (once_each [] (keyword_names kws)) ≡ true) × (are_filled (once_each [] (keyword_names kws))
           (parameter_names (take (count_exprs es) s.parameters)) (drop (count_exprs es) s.parameters) ≡ true)))
       parts =
           let a = and_parts (nat_le (count_exprs es) (length s.parameters)) _ suited in
           let b = and_parts (s.takes_names || has_none (once_each [] (keyword_names kws))) _ a.1 in
-          let c = and_parts (list_all (λ word. is_free (count_exprs es) (position_of s.parameters word))
+          let c = and_parts (list_all (λ word. is_free (count_exprs es) (index_of_parameter s.parameters word))
           (once_each [] (keyword_names kws))) _ b.1 in
           (a.0, (b.0, (c.0, c.1)))
 
@@ -175,10 +175,10 @@ module _ (bases : Bases) (k : HeapTyping) where
       are_given word e = ap (is_one_of word) names_are ∙ given_once word [] (keyword_names kws) e
 
       free : (word : List ℕ) → is_one_of word (once_each [] (keyword_names kws)) ≡ true
-          → is_free (length vs) (position_of s.parameters word) ≡ true
-      free word e = subst (λ n. is_free n (position_of s.parameters word) ≡ true)
+          → is_free (length vs) (index_of_parameter s.parameters word) ≡ true
+      free word e = subst (λ n. is_free n (index_of_parameter s.parameters word) ≡ true)
           (count_is (positional_seat offers) es im vs args)
-          (all_at (λ word. is_free (count_exprs es) (position_of s.parameters word)) (once_each [] (keyword_names kws))
+          (all_at (λ word. is_free (count_exprs es) (index_of_parameter s.parameters word)) (once_each [] (keyword_names kws))
           word parts.1.1.0 e)
 
       short : length vs ≤ length s.parameters
@@ -187,11 +187,11 @@ module _ (bases : Bases) (k : HeapTyping) where
 
       positional : PositionalHave bases k s.parameters vs
       positional = positional_have (positional_seat offers) es im vs s.parameters args
-          (λ i v h. each_of_one bases k (λ t. type_at (slice_get t.parameters i)) (signatures offers) s v one h) short
+          (λ i v h. each_of_one bases k (λ t. parameter_type (slice_get t.parameters i)) (signatures offers) s v one h) short
 
       have : NamedBehind bases k [] s.parameters named
-      have word w q new e f = (subst (λ o. HasEach bases k (type_at o) w) f
-          (each_of_one bases k (λ t. type_at (field_by_name t.parameters word)) (signatures offers) s w one
+      have word w q new e f = (subst (λ o. HasEach bases k (parameter_type o) w) f
+          (each_of_one bases k (λ t. parameter_type (field_by_name t.parameters word)) (signatures offers) s w one
           (value_seated (named_seat offers) [] kws km named kwargs word w refl e))).0
 
   -- ---- other parameters of the same shape

@@ -23,7 +23,7 @@ use Rattle.pc_rules.specs.Operations.{Label, attribute_found, attribute_member}
 use Rattle.pc_rules.specs.Context.{Context, Signature}
 use Rattle.pc_rules.specs.Calls.{GivenArguments, arguments_given, is_suited, CallOffer, signature_offer, value_offer}
 use Rattle.pc_rules.specs.Calls.{value_offers, method_signature, class_offers, list_offers, dict_offers, method_offers}
-use Rattle.pc_rules.specs.Calls.{all_codes, call_label, signatures, positional_seat, named_seat, type_at}
+use Rattle.pc_rules.specs.Calls.{all_codes, call_label, signatures, positional_seat, named_seat, parameter_type}
 use Rattle.pc_rules.specs.Labels.{Labels, type_of, Finds, ItemsLabels, KeywordsLabels, ItemsFind, KeywordsFind}
 use Rattle.pc_rules.specs.Labels.{IsFoundAt}
 use Rattle.pc_rules.specs.Lawful.{Lawful, LawfulItems, LawfulKeywords}
@@ -478,7 +478,7 @@ module _ (m : Module) (inherits : Inherits (bases_of m) (classes_of m)) (constan
             )) v here.type b values more
             λ k h. suited_performs (bases_of m) fits.smaller k v b s h.0 (positional_seat offers) (named_seat offers)
             args im kws km values more (suited_offer s among)
-            (λ w x. each_of_one (bases_of m) k (λ t. type_at (slice_get t.parameters 0)) (signatures offers) s w
+            (λ w x. each_of_one (bases_of m) k (λ t. parameter_type (slice_get t.parameters 0)) (signatures offers) s w
             (one_offer s among) x) h.1.0 h.1.1 here.type
             (λ j grows x y. of_call s among (suited_offer s among) j x y)
 

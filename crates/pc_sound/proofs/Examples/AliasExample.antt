@@ -5,7 +5,7 @@ use Rattle.pc_tree.specs.declared.code.Code.TheVariants.{A1, E12, E20}
 use Rattle.pc_scope.specs.Reserved.{builtin_of}
 use Rattle.pc_types.specs.Tree.{Tree, Int, Str, Any, Object, ListOf, Union}
 use Rattle.pc_types.specs.Below.{Bases, Static, same, object}
-use Rattle.pc_types.specs.Assignable.{Assignable, Fills, any, int, str, list, union}
+use Rattle.pc_types.specs.Assignable.{Assignable, Materializes, any, int, str, list, union}
 use Rattle.pc_types.proofs.Structural.{Sub, s_list, s_both, sub_of}
 use Rattle.pc_class.specs.Bases.{bases_of}
 use Rattle.pc_class.specs.Facts.{classes_of}
@@ -43,7 +43,7 @@ assignable_to_any bases = record {
   is_below = same;
 }
 
-wider_items : (bases : Bases) (s t : Tree) → Fills (ListOf Int) s → Fills (ListOf (Union Int Str)) t → Sub bases s t → ⊥
+wider_items : (bases : Bases) (s t : Tree) → Materializes (ListOf Int) s → Materializes (ListOf (Union Int Str)) t → Sub bases s t → ⊥
 wider_items bases _ _ (list int) (list (union int str)) (s_list to (s_both whole other)) = no_text_is_int other
 
 not_assignable : (bases : Bases) → Assignable bases (ListOf Int) (ListOf (Union Int Str)) → ⊥

@@ -33,7 +33,7 @@ use Rattle.pc_types.specs.Tree.{Tree}
 use Rattle.pc_types.specs.Below.{Bases}
 use Rattle.pc_types.specs.Shape.{nodes, node_limit}
 use Rattle.pc_annotations.specs.Annotations as ann
-use Rattle.pc_annotations.specs.Annotations.{named_type, applied_type, empty_type, union_type, reading, readings, PartFinds}
+use Rattle.pc_annotations.specs.Annotations.{named_type, applied_type, empty_type, union_type, reading, read_anns, PartFinds}
 use Rattle.pc_annotations.specs.Annotations.{PartsFind, IsTooLarge, AnnFinds}
 use Rattle.pc_class.specs.Bases.{bases_of}
 use Rattle.pc_rules.specs.Operations.{FlowLabel}
@@ -260,10 +260,10 @@ module _ (m : Module) (bases : Bases) where
         (equal_listed (finding n.place E09)) nothing_listed
     part_listed (none_type p) = nothing_listed
     part_listed (applied p head arguments) = by_option (applied_type (resolve_in_module m head.text)
-        (readings m bases arguments)) (equal_listed (finding p E09)) (parts_listed arguments)
+        (read_anns m bases arguments)) (equal_listed (finding p E09)) (parts_listed arguments)
     part_listed (applied_empty p head) = by_option (empty_type (resolve_in_module m head.text))
         (equal_listed (finding p E09)) nothing_listed
-    part_listed (tree.union p parts) = both_listed (by_option (union_type bases (readings m bases parts))
+    part_listed (tree.union p parts) = both_listed (by_option (union_type bases (read_anns m bases parts))
         (equal_listed (finding p E10)) nothing_listed) (parts_listed parts)
 
     pub parts_listed : (parts : Anns) → Listing (PartsFind m bases parts)

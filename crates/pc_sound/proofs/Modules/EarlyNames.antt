@@ -30,7 +30,7 @@ use Rattle.pc_flow.specs.Environment.{Env, current}
 use Rattle.pc_rules.specs.Operations.{in_error}
 use Rattle.pc_rules.specs.Context.{Context, local_label, name_label, constant_label, is_early}
 use Rattle.pc_rules.specs.Signatures.{initializer_context}
-use Rattle.pc_module_rules.specs.Modules.{Labelling, IsLawful, ItemsLabels, BeforeItem, before_next, nothing_before}
+use Rattle.pc_module_rules.specs.Modules.{Labelling, IsLawful, ModuleItemsLabels, BeforeItem, before_next, nothing_before}
 use Rattle.pc_sound.specs.Silent.{HasNoSilentError, tested}
 use Rattle.pc_sound.proofs.Lists.{get_at_end, one_longer}
 use Rattle.pc_sound.proofs.Settled.SettledParts.{tests_in_time}
@@ -257,7 +257,7 @@ module _ (m : Module) (labels : Labelling m) (lawful : IsLawful m labels) (clean
       taken : take (length done) m.items ≡ done
       taken = ap (take (length done)) (sym whole) ∙ take-append_seam done (constant_item p c ∷ rest)
 
-  timely_items : (done : List Item) (b : BeforeItem) (items : List Item) (labels : ItemsLabels items)
+  timely_items : (done : List Item) (b : BeforeItem) (items : List Item) (labels : ModuleItemsLabels items)
       → done ++ items ≡ m.items → length b.constants ≡ length (constants_in done) → b.classes ≡ length (classes_in done)
       → InitializersTimely tests_in_time m b items labels
   timely_items done b [] labels whole constants classes = tt

@@ -27,7 +27,7 @@ use Rattle.pc_scope.specs.Resolution.{is_one_of, entry_texts, function_of}
 use Rattle.pc_scope_findings.specs.Findings as scope
 use Rattle.pc_scope_findings.specs.Findings.{IsScopeCode}
 use Rattle.pc_types.specs.Tree.{Tree}
-use Rattle.pc_module_rules.specs.Modules.{FunctionLabels, LawfulFunction, FunctionFinds, ItemsLabels, ItemsFind}
+use Rattle.pc_module_rules.specs.Modules.{FunctionLabels, LawfulFunction, FunctionFinds, ModuleItemsLabels, ModuleItemsFind}
 use Rattle.pc_module_rules.specs.Modules.{BeforeItem, IsFinding}
 use Rattle.pc_module_rules.specs.Modules.{before_next, nothing_before, Labelling, IsLawful, constant_types}
 use Rattle.pc_module_rules.specs.Modules.{item_constants}
@@ -47,7 +47,7 @@ use Rattle.pc_sound.proofs.Lists.{same_text_back}
 -- ---- what is at the end of the items
 
 module _ (m : Module) (constants : List Tree) (listed : Place → Type 0) where
-  pub last_types_are : (b : BeforeItem) (items : List Item) (labels : ItemsLabels items)
+  pub last_types_are : (b : BeforeItem) (items : List Item) (labels : ModuleItemsLabels items)
       → (last_of m constants listed b items labels).constants ≡ b.constants ++ constant_types m items labels
   last_types_are b [] labels = sym (append-nil b.constants)
   last_types_are b (constant_item p c ∷ rest) labels = last_types_are (before_next m b (constant_item p c) labels.first)
@@ -58,7 +58,7 @@ module _ (m : Module) (constants : List Tree) (listed : Place → Type 0) where
   last_types_are b (def_item p f ∷ rest) labels = last_types_are (before_next m b (def_item p f) labels.first) rest
       labels.rest
 
-  pub last_classes_are : (b : BeforeItem) (items : List Item) (labels : ItemsLabels items)
+  pub last_classes_are : (b : BeforeItem) (items : List Item) (labels : ModuleItemsLabels items)
       → (last_of m constants listed b items labels).classes ≡ b.classes + length (classes_in items)
   last_classes_are b [] labels = omega arith
   last_classes_are b (constant_item p c ∷ rest) labels = last_classes_are
@@ -173,7 +173,7 @@ module _ (m : Module) (labels : Labelling m) (lawful : IsLawful m labels) (clean
       go false r = r
 
   -- a finding of the items is a listed place, and its code is not silent everywhere
-  pub listed_finding : (f : Finding) → ItemsFind m (constant_types m m.items labels) nothing_before m.items labels f
+  pub listed_finding : (f : Finding) → ModuleItemsFind m (constant_types m m.items labels) nothing_before m.items labels f
       → IsListedPlace m f.place × (¬ (IsSilentCode f.code))
   listed_finding f h = let found = said_is_found m labels lawful f h in
       (record { finding = f; found = found; at = refl }, λ s. clean f found (by_code s))

@@ -23,7 +23,7 @@ use Rattle.pc_value.specs.Value.{Value, whole, boolean, string, none, tuple_of, 
 use Rattle.pc_machine.specs.State as state
 use Rattle.pc_machine.specs.State.{Function, Class as MadeClass, Globals}
 use Rattle.pc_sound.specs.Values.{HeapTyping, HasType, Extends}
-use Rattle.pc_sound.specs.Loaded.{IsPlain, DefaultHas, DefaultsHave, MadeOf, MethodsAre, ClassIs, IsLoaded}
+use Rattle.pc_sound.specs.Loaded.{IsOutsideHeap, DefaultHas, DefaultsHave, MadeOf, MethodsAre, ClassIs, IsLoaded}
 use Rattle.pc_sound.proofs.Steps.Judgment.{Around}
 use Rattle.pc_sound.proofs.Values.ValuesFlow.{later}
 use Rattle.pc_sound.proofs.Settled.KeyedLabels.{SuiteKeyed}
@@ -33,7 +33,7 @@ module _ (m : Module) where
 
   module _ (k k' : HeapTyping) where
     -- a plain value is of its types under each heap typing
-    plain_again : (t : Tree) (v : Value) → IsPlain v → HasType (bases_of m) k t v → HasType (bases_of m) k' t v
+    plain_again : (t : Tree) (v : Value) → IsOutsideHeap v → HasType (bases_of m) k t v → HasType (bases_of m) k' t v
     plain_again Any v p h = tt
     plain_again Object v p h = tt
     plain_again Int (whole n) p h = tt

@@ -23,8 +23,8 @@ use Rattle.pc_rules.specs.Context.{FlowsInto}
 use Rattle.pc_rules.specs.Labels.{whole_label}
 use Rattle.pc_rules.specs.Lawful.{Lawful}
 use Rattle.pc_rules.specs.Signatures.{initializer_context, binds_name, annotated_types, first_of_types}
-use Rattle.pc_module_rules.specs.Modules.{BeforeItem, before_next, ItemLabels, ItemsLabels, LawfulItem}
-use Rattle.pc_module_rules.specs.Modules.{LawfulModuleItems, ItemFinds, ItemsFind}
+use Rattle.pc_module_rules.specs.Modules.{BeforeItem, before_next, ItemLabels, ModuleItemsLabels, LawfulItem}
+use Rattle.pc_module_rules.specs.Modules.{LawfulModuleItems, ItemFinds, ModuleItemsFind}
 use Rattle.pc_value.specs.Value.{Gives}
 use Rattle.pc_machine.specs.State.{State, Function, Class, Globals}
 use Rattle.pc_machine.specs.Names.{meaning_in_run, meaning_of_global, meaning_of_local, global_by_name}
@@ -71,13 +71,13 @@ module _ (m : Module) (constants : List Tree) (listed : Place → Type 0) where
   ItemReady b (class_item p c) labels = binds_name b.names c.name ≡ true
   ItemReady b (def_item p f) labels = (binds_name b.names f.name ≡ true) × ParametersBind m listed [] f.params
 
-  abbrev pub ItemsReady : BeforeItem → (items : List Item) → ItemsLabels items → Type 0
+  abbrev pub ItemsReady : BeforeItem → (items : List Item) → ModuleItemsLabels items → Type 0
   ItemsReady b [] labels = Unit {0}
   ItemsReady b (i ∷ rest) labels = ItemReady b i labels.first × ItemsReady (before_next m b i labels.first) rest
       labels.rest
 
   -- the state before the end
-  abbrev pub last_of : BeforeItem → (items : List Item) → ItemsLabels items → BeforeItem
+  abbrev pub last_of : BeforeItem → (items : List Item) → ModuleItemsLabels items → BeforeItem
   last_of b [] labels = b
   last_of b (i ∷ rest) labels = last_of (before_next m b i labels.first) rest labels.rest
 
@@ -95,10 +95,10 @@ module _ (m : Module) (constants : List Tree) (listed : Place → Type 0) where
       → GoodEval (around_items m listed types defs n names) (initializer_context m types n) parts.eval)
       (evaluates : (e : Expr) → Evaluates (place_of e) (parts.eval e)) (classes : GoodClasses parts) where
     -- items after others
-    pub items_proceed : (done rest : List Item) (b : BeforeItem) (defs : List FuncDef) (labels : ItemsLabels rest)
+    pub items_proceed : (done rest : List Item) (b : BeforeItem) (defs : List FuncDef) (labels : ModuleItemsLabels rest)
         → m.items ≡ done ++ rest → length b.constants ≡ length (constants_in done)
         → b.classes ≡ length (classes_in done) → defs ≡ functions_in done
-        → LawfulModuleItems m constants b rest labels → Listed m listed (ItemsFind m constants b rest labels)
+        → LawfulModuleItems m constants b rest labels → Listed m listed (ModuleItemsFind m constants b rest labels)
         → ItemsReady b rest labels
         → Proceeds listed (λ k s. Between m listed b.constants defs b.classes b.names k s)
         (exec_items Step free parts m.imports_dataclass rest) (λ k u s. Between m listed

@@ -48,7 +48,7 @@ use Rattle.pc_machine.specs.Evaluation.{make_literal, make_default, make_paramet
 use Rattle.pc_machine.specs.Evaluation.{exec_item}
 use Rattle.pc_sound.specs.Values.{HeapTyping, HasType, Extends, IsWell}
 use Rattle.pc_sound.specs.Ends.{EndsWell}
-use Rattle.pc_sound.specs.Loaded.{IsPlain, DefaultHas, DefaultsHave, MadeOf, ClassIs, ConstantIs, FunctionIs}
+use Rattle.pc_sound.specs.Loaded.{IsOutsideHeap, DefaultHas, DefaultsHave, MadeOf, ClassIs, ConstantIs, FunctionIs}
 use Rattle.pc_sound.proofs.Steps.Judgment.{HasListed, Around, IsWellTyped, IsSafe}
 use Rattle.pc_sound.proofs.TruthValues.{not_both}
 use Rattle.pc_sound.proofs.Lists.{get_one_more, same_text_back}
@@ -337,7 +337,7 @@ module _ (m : Module) where
 
     module _ (before : Known) where
       literal_made : (l : Literal) → Proceeds listed before (make_literal Step free l)
-          (λ k v s. before k s × (IsPlain v × HasType (bases_of m) k (literal_type l) v))
+          (λ k v s. before k s × (IsOutsideHeap v × HasType (bases_of m) k (literal_type l) v))
       literal_made (number_literal p digits) = proceeds_act before value_out (action.number (number_of_digits digits)) _
           λ f k s b. (refl, (b, (tt, tt)))
       literal_made (negative_literal p digits) = proceeds_act before value_out
@@ -383,7 +383,7 @@ module _ (m : Module) where
             is = refl;
           })).1 (default refl (here (literal_place l) (0, omega arith, refl)))) in
           proceeds_bind listed before _ _
-          (λ k v s. before k s × (IsPlain v × HasType (bases_of m) k (literal_type l) v)) _ (literal_made before l)
+          (λ k v s. before k s × (IsOutsideHeap v × HasType (bases_of m) k (literal_type l) v)) _ (literal_made before l)
           λ v. proceeds_comes listed _ (Gives (Some v)) _ λ k s b.
           (b.0, (b.1.0, of_static (bases_of m) k (literal_type l) t below v b.1.1))
 

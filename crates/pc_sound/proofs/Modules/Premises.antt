@@ -30,7 +30,7 @@ use Rattle.pc_class.specs.Findings.{base_class, member_texts}
 use Rattle.pc_class.proofs.Judged.{judged_once}
 use Rattle.pc_class.specs.Overrides.{Judges, dynamic, wrong, overridden}
 use Rattle.pc_rules.specs.Signatures.{body_context}
-use Rattle.pc_module_rules.specs.Modules.{FunctionLabels, LawfulFunction, FunctionFinds, ItemsLabels, BeforeItem}
+use Rattle.pc_module_rules.specs.Modules.{FunctionLabels, LawfulFunction, FunctionFinds, ModuleItemsLabels, BeforeItem}
 use Rattle.pc_module_rules.specs.Modules.{before_next, nothing_before, constant_types, Labelling, IsLawful, IsFinding}
 use Rattle.pc_machine.specs.Free.{Step, free}
 use Rattle.pc_machine.specs.Evaluation.{steps}
@@ -83,7 +83,7 @@ count_last done (method_member d) = ap length (filter_map-append as_method done 
 -- ---- constants
 
 -- each constant has a type
-constant_at : (m : Module) (items : List Item) (labels : ItemsLabels items) (i : ℕ) (c : Constant)
+constant_at : (m : Module) (items : List Item) (labels : ModuleItemsLabels items) (i : ℕ) (c : Constant)
     → slice_get (constants_in items) i ≡ Some c → (t : Tree) × (slice_get (constant_types m items labels) i ≡ Some t)
 constant_at m [] labels i c e = absurd (none-some _ e)
 constant_at m (constant_item p x ∷ rest) labels zero c e = (_, refl)
@@ -263,7 +263,7 @@ module _ (m : Module) (labels : Labelling m) (lawful : IsLawful m labels) (clean
         (initializer_ancestors m (IsListedPlace m) types defs n names)
 
     -- each item can run
-    all_ready : (done items : List Item) (b : BeforeItem) (im : ItemsLabels items) → m.items ≡ done ++ items
+    all_ready : (done items : List Item) (b : BeforeItem) (im : ModuleItemsLabels items) → m.items ≡ done ++ items
         → AllBind b.names (map name_of_item items) → InitializersKeyed items im
         → ItemsReady m (constant_types m m.items labels) (IsListedPlace m) b items im
     all_ready done [] b im all binds keyed = tt

@@ -19,12 +19,12 @@ use Rattle.pc_rules.specs.Context.{Context}
 use Rattle.pc_rules.specs.Signatures.{initializer_context}
 use Rattle.pc_module_rules.proofs.Scopes.{said_is_found}
 use Rattle.pc_module_rules.specs.Modules.{Labelling, IsLawful, IsFinding, constant_types, BeforeItem, nothing_before}
-use Rattle.pc_module_rules.specs.Modules.{ItemsFind}
+use Rattle.pc_module_rules.specs.Modules.{ModuleItemsFind}
 use Rattle.pc_value.specs.Value.{Value, Raised, Other, Outside, Cut, Out, Gives, Stops}
 use Rattle.pc_machine.specs.State.{State, nothing_bound}
 use Rattle.pc_machine.specs.Free.{Step, free}
 use Rattle.pc_machine.specs.Evaluation.{steps, exec_items, exec_module, enter_main}
-use Rattle.pc_machine.specs.Runs.{Run, End, end_of, IsFaultyEnd}
+use Rattle.pc_machine.specs.Runs.{Run, End, end_with, IsFaultyEnd}
 use Rattle.pc_sound.proofs.Steps.Judgment.{HasListed, Around, IsContextOf}
 use Rattle.pc_sound.specs.Silent.{HasNoSilentError}
 use Rattle.pc_sound.specs.Sound.{HasEvaluatedListed}
@@ -101,7 +101,7 @@ module _ (m : Module) (labels : Labelling m) where
         labels).classes ≡ length (classes_in m.items)
 
   module _ (lawful : IsLawful m labels) (clean : HasNoSilentError m) (premises : Premises) where
-    listed_of : Listed m (IsListedPlace m) (ItemsFind m (constant_types m m.items labels) nothing_before m.items labels)
+    listed_of : Listed m (IsListedPlace m) (ModuleItemsFind m (constant_types m m.items labels) nothing_before m.items labels)
     listed_of f h = let found = said_is_found m labels lawful f h in
         (record { finding = f; found = found; at = refl }, clean f found)
 
@@ -138,7 +138,7 @@ module _ (m : Module) (labels : Labelling m) where
         lab : Labelled m (constant_types m m.items labels) (IsListedPlace m) (owners.Func main.number) main.function
         lab = premises.labelled (owners.Func main.number) main.function main.is
 
-    no_fault : (out : Out Value) → EndsWell (λ v. Unit {0}) out → IsFaultyEnd (end_of out) → ⊥
+    no_fault : (out : Out Value) → EndsWell (λ v. Unit {0}) out → IsFaultyEnd (end_with out) → ⊥
     no_fault (Gives v) e f = f
     no_fault (Stops (Raised x)) e f = e
     no_fault (Stops Outside) e f = e

@@ -25,7 +25,7 @@ use Rattle.pc_rules.specs.Labels.{FlowLabels}
 use Rattle.pc_rules.specs.Signatures.{body_context, initializer_context, literal_type, literal_place, LawfulDefault}
 use Rattle.pc_rules.specs.Signatures.{ParamsLabels, LawfulParams, binds_name, annotated_types, first_of_types}
 use Rattle.pc_module_rules.specs.Modules.{entry_parameters, names_entered, entry_env, FunctionLabels, LawfulFunction}
-use Rattle.pc_module_rules.specs.Modules.{MembersLabels, LawfulMembers, ItemLabels, ItemsLabels, BeforeItem}
+use Rattle.pc_module_rules.specs.Modules.{MembersLabels, LawfulMembers, ItemLabels, ModuleItemsLabels, BeforeItem}
 use Rattle.pc_module_rules.specs.Modules.{before_next, nothing_before, constant_types, LawfulItem, LawfulModuleItems}
 use Rattle.pc_module_rules.specs.Modules.{Labelling}
 use Rattle.pc_module_rules.specs.FlowsOfExpressions.{CodedFlow}
@@ -146,7 +146,7 @@ module _ (asked : Asked) where
         labels law
     bodies_flows b (def_item p f) labels k law = body_flows (owners.Func b.functions) tt f labels law
 
-    abbrev ItemsAsked : BeforeItem → (items : List Item) → ItemsLabels items → Type 0
+    abbrev ItemsAsked : BeforeItem → (items : List Item) → ModuleItemsLabels items → Type 0
     ItemsAsked b [] labels = Unit {0}
     ItemsAsked b (i ∷ rest) labels = ItemAsked b i labels.first × ItemsAsked (before_next m b i labels.first) rest
         labels.rest
@@ -154,7 +154,7 @@ module _ (asked : Asked) where
     each_flows :
         (flows : (i : Item) → ItemLabels i → List CodedFlow) → ((b : BeforeItem) (i : Item) (labels : ItemLabels i)
         → ItemAsked b i labels → LawfulItem m constants b i labels → FlowsSettled asked (flows i labels))
-        → (b : BeforeItem) (items : List Item) (labels : ItemsLabels items) → ItemsAsked b items labels
+        → (b : BeforeItem) (items : List Item) (labels : ModuleItemsLabels items) → ItemsAsked b items labels
         → LawfulModuleItems m constants b items labels → FlowsSettled asked (flows_in_each flows items labels)
     each_flows flows one b [] labels k law = tt
     each_flows flows one b (i ∷ rest) labels k law =
@@ -164,7 +164,7 @@ module _ (asked : Asked) where
 
     -- each class of a module is as asked, where those of its numbers are
     module _ (all : (c : ℕ) → c < length (classes_in m.items) → ClassAsked asked c) where
-      items_asked : (b : BeforeItem) (items : List Item) (labels : ItemsLabels items)
+      items_asked : (b : BeforeItem) (items : List Item) (labels : ModuleItemsLabels items)
           → b.classes + length (classes_in items) ≡ length (classes_in m.items) → InitializersSettled asked items labels
           → ItemsAsked b items labels
       items_asked b [] labels e k = tt
@@ -224,7 +224,7 @@ named_below m word c e =
 
 -- where classes are asked, nothing is asked of tests of an instance
 module _ (m : Module) (bound : ℕ) where
-  initializers_timely : (b : BeforeItem) (items : List Item) (labels : ItemsLabels items)
+  initializers_timely : (b : BeforeItem) (items : List Item) (labels : ModuleItemsLabels items)
       → InitializersTimely (classes_below bound) m b items labels
   initializers_timely b [] labels = tt
   initializers_timely b (constant_item p c ∷ rest) labels = (

@@ -20,7 +20,7 @@ use Rattle.pc_rules.specs.Calls.{GivenArguments, plain_call, fails_at_call, fail
 use Rattle.pc_rules.specs.Calls.{signature_offer, is_suited, value_offer, method_signature, builtin_signature}
 use Rattle.pc_rules.specs.Calls.{class_offers, list_offers, dict_offers, CallRule, length_rule, test_rule, own_callee}
 use Rattle.pc_rules.specs.Calls.{builtin_callee, good_callee, is_one, is_two, call_label, all_codes, signatures}
-use Rattle.pc_rules.specs.Calls.{only_member, expected_type, type_at, positional_seat, named_seat, nowhere}
+use Rattle.pc_rules.specs.Calls.{only_member, expected_type, parameter_type, positional_seat, named_seat, nowhere}
 use Rattle.pc_rules.specs.Lawful.{keyword_seat}
 use Rattle.pc_sound.proofs.Settled.SettledParts.{Asked, IsSettled, NamesAsked}
 use Rattle.pc_sound.proofs.Settled.SettledTypes.{OptionSettled, either_settled, all_settled, EachSettled}
@@ -196,7 +196,7 @@ module _ (asked : Asked) where
         go true = tt
         go false = calls_of offers settled
 
-    type_at_settled : (p : Option TypedParameter) → FieldSettled p → EachSettled asked (type_at p)
+    type_at_settled : (p : Option TypedParameter) → FieldSettled p → EachSettled asked (parameter_type p)
     type_at_settled None h = tt
     type_at_settled (Some p) h = (h, tt)
 
@@ -207,9 +207,9 @@ module _ (asked : Asked) where
 
     types_settled : (f : Signature → Option TypedParameter) → ((s : Signature) → SignatureSettled s
         → FieldSettled (f s)) → (ss : List Signature) → CallsSettled ss
-        → EachSettled asked (flat_map (λ s. type_at (f s)) ss)
+        → EachSettled asked (flat_map (λ s. parameter_type (f s)) ss)
     types_settled f each [] h = tt
-    types_settled f each (s ∷ ss) h = append_settled asked (type_at (f s)) (flat_map (λ s. type_at (f s)) ss)
+    types_settled f each (s ∷ ss) h = append_settled asked (parameter_type (f s)) (flat_map (λ s. parameter_type (f s)) ss)
         (type_at_settled (f s) (each s h.0)) (types_settled f each ss h.1)
 
     wanted_settled : (x : Test) (ts : List Tree) → EachSettled asked ts → OptionSettled asked (expected_type x ts)
@@ -219,12 +219,12 @@ module _ (asked : Asked) where
     wanted_settled false ts h = tt
 
     pub positional_settled : (i : ℕ) → OptionSettled asked (positional_seat offers i).want
-    positional_settled i = wanted_settled (only_member offers) (flat_map (λ s. type_at (slice_get s.parameters i))
+    positional_settled i = wanted_settled (only_member offers) (flat_map (λ s. parameter_type (slice_get s.parameters i))
         (signatures offers)) (types_settled (λ s. slice_get s.parameters i)
         (λ s h. parameter_settled s.parameters i h.0) (signatures offers) signatures_settled)
 
     named_settled : (word : List ℕ) → OptionSettled asked (named_seat offers word).want
-    named_settled word = wanted_settled (only_member offers) (flat_map (λ s. type_at (field_by_name s.parameters word))
+    named_settled word = wanted_settled (only_member offers) (flat_map (λ s. parameter_type (field_by_name s.parameters word))
         (signatures offers)) (types_settled (λ s. field_by_name s.parameters word)
         (λ s h. field_settled s.parameters word h.0) (signatures offers) signatures_settled)
 

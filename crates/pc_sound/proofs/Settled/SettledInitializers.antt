@@ -9,7 +9,7 @@ use Rattle.pc_types.specs.Tree.{Tree}
 use Rattle.pc_class.specs.Bases.{bases_of}
 use Rattle.pc_rules.specs.Labels.{type_of}
 use Rattle.pc_rules.specs.Signatures.{initializer_context, binds_name, annotated_types, first_of_types, constant_type}
-use Rattle.pc_module_rules.specs.Modules.{ItemsLabels, LawfulModuleItems, BeforeItem, before_next, nothing_before}
+use Rattle.pc_module_rules.specs.Modules.{ModuleItemsLabels, LawfulModuleItems, BeforeItem, before_next, nothing_before}
 use Rattle.pc_module_rules.specs.Modules.{constant_types, Labelling, IsLawful}
 use Rattle.pc_sound.proofs.Lists.{get_one_more}
 use Rattle.pc_sound.proofs.Settled.SettledParts.{Asked, IsSettled, NamesAsked, settled_type}
@@ -30,7 +30,7 @@ module _ (asked : Asked) where
 
   module _ (m : Module) where
     -- no test of an instance in an initializer has the error of order at its second argument
-    abbrev pub InitializersTimely : BeforeItem → (items : List Item) → ItemsLabels items → Type 0
+    abbrev pub InitializersTimely : BeforeItem → (items : List Item) → ModuleItemsLabels items → Type 0
     InitializersTimely b [] labels = Unit {0}
     InitializersTimely b (constant_item p c ∷ rest) labels = Timely asked (initializer_context m b.constants b.classes)
         [] c.value × InitializersTimely (before_next m b (constant_item p c) labels.first) rest labels.rest
@@ -49,11 +49,11 @@ module _ (asked : Asked) where
     type_settled None t h = h
     type_settled (Some a) t h = ann_settled asked m meant (bases_of m) a
 
-    record BothSettled (b : BeforeItem) (items : List Item) (labels : ItemsLabels items) : Type 0 where
+    record BothSettled (b : BeforeItem) (items : List Item) (labels : ModuleItemsLabels items) : Type 0 where
       settled_labels : InitializersSettled asked items labels
       types : AllTypesSettled (b.constants ++ constant_types m items labels)
 
-    both_settled : (all : List Tree) (b : BeforeItem) (items : List Item) (labels : ItemsLabels items)
+    both_settled : (all : List Tree) (b : BeforeItem) (items : List Item) (labels : ModuleItemsLabels items)
         → LawfulModuleItems m all b items labels → InitializersTimely m b items labels → AllTypesSettled b.constants
         → BothSettled b items labels
     both_settled all b [] labels law timely settled = record {

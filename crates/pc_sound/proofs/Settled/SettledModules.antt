@@ -17,7 +17,7 @@ use Rattle.pc_types.specs.Below.{Bases}
 use Rattle.pc_types.specs.Shape.{nodes, node_limit, union}
 use Rattle.pc_types.specs.Join.{is_before}
 use Rattle.pc_annotations.specs.Annotations.{atom, named_type, dict_type, built_type, applied_type, empty_type, is_union}
-use Rattle.pc_annotations.specs.Annotations.{insert_member, in_union_order, union_type, reading, readings, read_ann}
+use Rattle.pc_annotations.specs.Annotations.{insert_member, in_union_order, union_type, reading, read_anns, read_ann}
 use Rattle.pc_annotations.specs.Annotations.{read_option}
 use Rattle.pc_class.specs.Bases.{bases_of, base_named}
 use Rattle.pc_class.specs.Facts.{TypedParameter, Method, ClassFacts, class_facts_at, base_facts, binds_field}
@@ -95,14 +95,14 @@ module _ (asked : Asked) where
           (named_settled m.imports_any (resolve_in_module m n.text) (meant n.text)) tt
       reading_settled (none_type p) = tt
       reading_settled (applied p head args) = or_settled asked (applied_type (resolve_in_module m head.text)
-          (readings m bases args)) Any (applied_settled (resolve_in_module m head.text) (readings m bases args)
+          (read_anns m bases args)) Any (applied_settled (resolve_in_module m head.text) (read_anns m bases args)
           (readings_settled args)) tt
       reading_settled (applied_empty p head) = or_settled asked (empty_type (resolve_in_module m head.text)) Any
           (empty_settled (resolve_in_module m head.text)) tt
-      reading_settled (tree.union p parts) = or_settled asked (union_type bases (readings m bases parts)) Any
-          (union_type_settled bases (readings m bases parts) (readings_settled parts)) tt
+      reading_settled (tree.union p parts) = or_settled asked (union_type bases (read_anns m bases parts)) Any
+          (union_type_settled bases (read_anns m bases parts) (readings_settled parts)) tt
 
-      readings_settled : (parts : Anns) → EachSettled asked (readings m bases parts)
+      readings_settled : (parts : Anns) → EachSettled asked (read_anns m bases parts)
       readings_settled no_anns = tt
       readings_settled (more_anns a rest) = (reading_settled a, readings_settled rest)
 

@@ -11,7 +11,7 @@ use Rattle.pc_rules.specs.Operations.{FlowLabel}
 use Rattle.pc_rules.specs.Labels.{FlowLabels}
 use Rattle.pc_module_rules.specs.StatementLabels.{OptionLabels, TargetLabels, StmtLabels, SuiteLabels, BranchesLabels}
 use Rattle.pc_module_rules.specs.StatementLabels.{BehindRule}
-use Rattle.pc_module_rules.specs.Modules.{ItemsLabels}
+use Rattle.pc_module_rules.specs.Modules.{ModuleItemsLabels}
 use Rattle.pc_sound.proofs.Settled.SettledParts.{Asked, TestsAsked, IsSettled, Settled}
 
 module _ (asked : Asked) where
@@ -72,7 +72,7 @@ module _ (asked : Asked) where
     BranchesSettled (more_branches c b rest) m = Settled asked c m.condition
         × (SuiteSettled b m.body × BranchesSettled rest m.rest)
 
-  abbrev pub InitializersSettled : (items : List Item) → ItemsLabels items → Type 0
+  abbrev pub InitializersSettled : (items : List Item) → ModuleItemsLabels items → Type 0
   InitializersSettled [] labels = Unit {0}
   InitializersSettled (constant_item p c ∷ rest) labels = Settled asked c.value labels.first.value
       × InitializersSettled rest labels.rest

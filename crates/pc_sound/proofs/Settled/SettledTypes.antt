@@ -18,7 +18,7 @@ use Rattle.pc_types.specs.Join.{equal_one, both_parts, by_rule, put_all, join_ea
 use Rattle.pc_types.proofs.Together.{equal_is}
 use Rattle.pc_flow.specs.Environment.{Env, current, declared_type, assign, join_or_object, join_onto, join_all}
 use Rattle.pc_flow.specs.Environment.{join_env}
-use Rattle.pc_flow.specs.Narrowing.{Tested, for_none, for_type, for_list, is_within, member_passing, member_failing}
+use Rattle.pc_flow.specs.Narrowing.{Tested, for_none, for_type, for_list, is_at_or_below, member_passing, member_failing}
 use Rattle.pc_flow.specs.Narrowing.{tested_as, narrow_current, narrow_local, test_named, test_of, test_of_argument}
 use Rattle.pc_flow.specs.Narrowing.{local_of_argument, first_argument, second_argument, local_named, narrow_instance}
 use Rattle.pc_flow.specs.Narrowing.{narrow}
@@ -213,7 +213,7 @@ module _ (asked : Asked) where
     passing_member (for_type c) k Any h = k
     passing_member (for_type c) k Object h = k
     passing_member (for_type c) k (Union a b) h = h
-    passing_member (for_type c) k m h = within_settled c m k h (is_within bases c m) (absorbs bases m c)
+    passing_member (for_type c) k m h = within_settled c m k h (is_at_or_below bases c m) (absorbs bases m c)
     passing_member for_list k (ListOf t) h = h
     passing_member for_list k (Union a b) h = h
     passing_member for_list k _ h = tt
@@ -226,7 +226,7 @@ module _ (asked : Asked) where
     failing_member (for_type c) Any h = tt
     failing_member (for_type c) Object h = tt
     failing_member (for_type c) (Union a b) h = h
-    failing_member (for_type c) m h = outside_settled m h (is_within bases c m)
+    failing_member (for_type c) m h = outside_settled m h (is_at_or_below bases c m)
 
     kept_settled : (f : Tree → Option Tree) → ((m : Tree) → IsSettled asked m → OptionSettled (f m)) → (ms : List Tree)
         → AllOf (IsSettled asked) ms → AllOf (IsSettled asked) (filter_map f ms)

@@ -21,7 +21,7 @@ use Rattle.pc_flow.specs.Environment.{Env}
 use Rattle.pc_rules.specs.Operations.{Label, clean, offers_label, iterate_member}
 use Rattle.pc_rules.specs.Context.{Context, Signature}
 use Rattle.pc_rules.specs.Calls.{GivenArguments, arguments_given, is_suited, fails_at_call, builtin_signature}
-use Rattle.pc_rules.specs.Calls.{call_label, signatures, type_at, Seat, positional_seat, named_seat, is_range}
+use Rattle.pc_rules.specs.Calls.{call_label, signatures, parameter_type, Seat, positional_seat, named_seat, is_range}
 use Rattle.pc_rules.specs.Calls.{range_offers, range_item}
 use Rattle.pc_rules.specs.Labels.{Labels, ItemsLabels, KeywordsLabels, type_of, Finds, IsFoundAt, ItemsFind}
 use Rattle.pc_rules.specs.Labels.{ArgumentsFind}
@@ -148,7 +148,7 @@ module _ (around : Around) (ctx : Context) (fits : IsContextOf around ctx) (m : 
         go false e here = absurd (not_empty (sym (ap (λ x. x.codes) here) ∙ quiet))
 
     into_int : labels.here.codes ≡ [] → (positional_seat (range_offers g) 0).into ≡ Int ∷ []
-    into_int quiet = ap (λ x. flat_map (λ (s : Signature). type_at (slice_get s.parameters 0))
+    into_int quiet = ap (λ x. flat_map (λ (s : Signature). parameter_type (slice_get s.parameters 0))
         (signatures ((if x then record { at_callee = []; at_call = []; gives = Object; calls = range_signature ∷ [] }
         else fails_at_call E14) ∷ []))) (suited quiet)
 

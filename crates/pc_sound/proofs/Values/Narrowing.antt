@@ -13,7 +13,7 @@ use Rattle.pc_types.specs.Shape.{members, union, ahead}
 use Rattle.pc_types.specs.Join.{same_tree, absorbs, reaches}
 use Rattle.pc_types.proofs.Structural.{Chain}
 use Rattle.pc_types.proofs.Descent.{reaches_below, chain_of, chain_reaches, comparable}
-use Rattle.pc_flow.specs.Narrowing.{Tested, for_none, for_type, for_list, is_within, member_within, member_passing}
+use Rattle.pc_flow.specs.Narrowing.{Tested, for_none, for_type, for_list, is_at_or_below, member_within, member_passing}
 use Rattle.pc_flow.specs.Narrowing.{member_failing, type_where_true, type_where_false}
 use Rattle.pc_value.specs.Value as value
 use Rattle.pc_value.specs.Value.{Value, whole, boolean, string, location}
@@ -155,7 +155,7 @@ module _ (bases : Bases) (ordered : AreSmaller bases) (k : HeapTyping) where
   both_true : (x y : Test) → x ≡ false → y ≡ true → (not x && y) ≡ true
   both_true x y e e' = rw e e'
 
-  classes_apart : (c d l : ℕ) → is_within bases (Class c) (Class d) ≡ false → absorbs bases (Class d) (Class c) ≡ false
+  classes_apart : (c d l : ℕ) → is_at_or_below bases (Class c) (Class d) ≡ false → absorbs bases (Class d) (Class c) ≡ false
       → HasType bases k (Class d) (location l) → HasType bases k (Class c) (location l) → ⊥
   classes_apart c d l w a h p = elim (eqb_tells d c) [
     | inl e ↦ not_both (or_left (d == c) (not (d == c) && reaches bases d d c) e.0) w
@@ -169,7 +169,7 @@ module _ (bases : Bases) (ordered : AreSmaller bases) (k : HeapTyping) where
       one_class : p.class ≡ h.class
       one_class = class_inj (same_Some _ _ (sym p.is ∙ h.is))
 
-  instance_apart : (c l : ℕ) (m : Tree) → is_within bases (Class c) m ≡ false → absorbs bases m (Class c) ≡ false
+  instance_apart : (c l : ℕ) (m : Tree) → is_at_or_below bases (Class c) m ≡ false → absorbs bases m (Class c) ≡ false
       → HasType bases k m (location l) → HasType bases k (Class c) (location l) → IsFollowed m → ⊥
   instance_apart c l (Class d) w a h p f = classes_apart c d l w a h p
   instance_apart c l (ListOf u) w a h p f = no_list_class (same_Some _ _ (sym h.is ∙ p.is))
@@ -179,25 +179,25 @@ module _ (bases : Bases) (ordered : AreSmaller bases) (k : HeapTyping) where
   instance_apart c l (Union x y) w a h p f = f
   instance_apart c l _ w a h p f = absurd h
 
-  within_int : (m : Tree) → m ≡ Int → is_within bases Int m ≡ true
-  within_int m e = ap (is_within bases Int) e
+  within_int : (m : Tree) → m ≡ Int → is_at_or_below bases Int m ≡ true
+  within_int m e = ap (is_at_or_below bases Int) e
 
-  within_bool : (m : Tree) → m ≡ Bool → is_within bases Int m ≡ true
-  within_bool m e = ap (is_within bases Int) e
+  within_bool : (m : Tree) → m ≡ Bool → is_at_or_below bases Int m ≡ true
+  within_bool m e = ap (is_at_or_below bases Int) e
 
   -- a member that neither is below the type tested for nor above it shares no value with it
-  apart : (c m : Tree) → IsTestedType c → is_within bases c m ≡ false → absorbs bases m c ≡ false → (v : Value)
+  apart : (c m : Tree) → IsTestedType c → is_at_or_below bases c m ≡ false → absorbs bases m c ≡ false → (v : Value)
       → HasType bases k m v → HasType bases k c v → IsFollowed m → ⊥
-  apart Int m t w a (whole n) h p f = not_both (ap (is_within bases Int) (number_member m n h f)) w
+  apart Int m t w a (whole n) h p f = not_both (ap (is_at_or_below bases Int) (number_member m n h f)) w
   apart Int m t w a (boolean b) h p f = elim (truth_member m b h f) [
-    | inl e ↦ not_both (ap (is_within bases Int) e) w
-    | inr e ↦ not_both (ap (is_within bases Int) e) w
+    | inl e ↦ not_both (ap (is_at_or_below bases Int) e) w
+    | inr e ↦ not_both (ap (is_at_or_below bases Int) e) w
   ]
   apart Int m t w a _ h p f = absurd p
   apart Bool m t w a (boolean b) h p f = elim (truth_member m b h f)
-      [ inl e ↦ not_both (ap (λ u. absorbs bases u Bool) e) a | inr e ↦ not_both (ap (is_within bases Bool) e) w ]
+      [ inl e ↦ not_both (ap (λ u. absorbs bases u Bool) e) a | inr e ↦ not_both (ap (is_at_or_below bases Bool) e) w ]
   apart Bool m t w a _ h p f = absurd p
-  apart Str m t w a (string cs) h p f = not_both (ap (is_within bases Str) (text_member m cs h f)) w
+  apart Str m t w a (string cs) h p f = not_both (ap (is_at_or_below bases Str) (text_member m cs h f)) w
   apart Str m t w a _ h p f = absurd p
   apart (Class c) m t w a (location l) h p f = instance_apart c l m w a h p f
   apart (Class c) m t w a _ h p f = absurd p
@@ -228,7 +228,7 @@ module _ (bases : Bases) (ordered : AreSmaller bases) (k : HeapTyping) where
   equal_type m NoneType t e = absurd t
   equal_type _ _ t e = absurd (false≢true e)
 
-  within : (c m : Tree) → IsTestedType c → is_within bases c m ≡ true → (v : Value) → HasType bases k m v
+  within : (c m : Tree) → IsTestedType c → is_at_or_below bases c m ≡ true → (v : Value) → HasType bases k m v
       → HasType bases k c v
   within c m t e v h = go (same_tree m c) refl e
     where
@@ -240,19 +240,19 @@ module _ (bases : Bases) (ordered : AreSmaller bases) (k : HeapTyping) where
 
   member_within_has : (c m : Tree) → IsTestedType c → IsFollowed m → (v : Value) → HasType bases k m v
       → HasType bases k c v → OptionHas bases k (member_within bases c m) v
-  member_within_has c m t f v h p = go (is_within bases c m) (absorbs bases m c) refl refl
+  member_within_has c m t f v h p = go (is_at_or_below bases c m) (absorbs bases m c) refl refl
     where
-      go : (x y : Test) → is_within bases c m ≡ x → absorbs bases m c ≡ y
+      go : (x y : Test) → is_at_or_below bases c m ≡ x → absorbs bases m c ≡ y
           → OptionHas bases k (if x then Some m else (if y then Some c else None)) v
       go true y e e' = h
       go false true e e' = p
       go false false e e' = apart c m t e e' v h p f
 
   outside_has : (c m : Tree) → IsTestedType c → (v : Value) → HasType bases k m v → ¬ (HasType bases k c v)
-      → OptionHas bases k (if is_within bases c m then None else Some m) v
-  outside_has c m t v h n = go (is_within bases c m) refl
+      → OptionHas bases k (if is_at_or_below bases c m then None else Some m) v
+  outside_has c m t v h n = go (is_at_or_below bases c m) refl
     where
-      go : (x : Test) → is_within bases c m ≡ x → OptionHas bases k (if x then None else Some m) v
+      go : (x : Test) → is_at_or_below bases c m ≡ x → OptionHas bases k (if x then None else Some m) v
       go true e = n (within c m t e v h)
       go false e = h
 

@@ -21,7 +21,7 @@ use Rattle.pc_types.specs.Below.{Bases}
 use Rattle.pc_types.specs.Shape.{nodes, node_limit, trees, ahead, union}
 use Rattle.pc_types.specs.Join.{is_before}
 use Rattle.pc_annotations.specs.Annotations.{atom, named_type, dict_type, built_type, applied_type, empty_type, is_union}
-use Rattle.pc_annotations.specs.Annotations.{insert_member, in_union_order, union_type, reading, readings, read_ann}
+use Rattle.pc_annotations.specs.Annotations.{insert_member, in_union_order, union_type, reading, read_anns, read_ann}
 use Rattle.pc_annotations.specs.Bases.{bases_of, base_named}
 use Rattle.pc_class.specs.Facts as facts
 use Rattle.pc_class.specs.Facts.{TypedParameter, class_facts_at, base_facts, binds_field, own_fields}
@@ -127,9 +127,9 @@ module _ (m : Module) where
   module _ (bases : Bases) where
     -- the types that several annotations are read as have no Never
     abbrev ReadWithout : Anns → Type 0
-    ReadWithout anns = AllHaveNone (readings m bases anns)
+    ReadWithout anns = AllHaveNone (read_anns m bases anns)
 
-    some_read : (anns : Anns) → AreSeveral anns → ReadWithout anns → SomeHaveNone (readings m bases anns)
+    some_read : (anns : Anns) → AreSeveral anns → ReadWithout anns → SomeHaveNone (read_anns m bases anns)
     some_read no_anns s n = absurd s
     some_read (more_anns a rest) s n = n
 
@@ -142,14 +142,14 @@ module _ (m : Module) where
       reading_without (none_type p) whole ts h = tt
       reading_without (applied p head arguments) whole ts h =
           let r = resolve_in_module m head.text in
-          let types = readings m bases arguments in
+          let types = read_anns m bases arguments in
           let n = readings_without arguments _ _ _ h.1.right.right.left in
           without_or (applied_type r types) (applied_without r types n)
       reading_without (applied_empty p head) whole ts h =
           let r = resolve_in_module m head.text in
           without_or (empty_type r) (empty_without r)
       reading_without (tree.union p parts) whole ts h =
-          let types = readings m bases parts in
+          let types = read_anns m bases parts in
           let n = some_read parts h.1 (readings_without parts _ _ _ h.2.1) in
           without_or (union_type bases types) (union_type_without bases types n)
 

@@ -35,7 +35,7 @@ pub record GoesTo (c : LexicalContext) (text : List ℕ) (sort : Sort) (end : �
   pub fits : FitsBySort c sort (slice_range text c.at end) (drop end text)
 
 -- this token, which fits here, is next
-pub record IsFound (c : LexicalContext) (text : List ℕ) (found : FoundToken) : Type 0 where
+pub record IsNextToken (c : LexicalContext) (text : List ℕ) (found : FoundToken) : Type 0 where
   pub piece : GoesTo c text (Lexical found.kind) found.end
   pub form : form_of (slice_range text c.at found.end) found.form
       ≡ form_by_kind found.kind (slice_range text c.at found.end)
@@ -44,7 +44,7 @@ pub record IsFound (c : LexicalContext) (text : List ℕ) (found : FoundToken) :
 abbrev pub IsNext : LexicalContext → List ℕ → NextPiece → Type 0
 IsNext c text (n.Gap end) = GoesTo c text Blanks end ⊎ GoesTo c text Comment end
 IsNext c text (n.LineEnd end) = GoesTo c text LineEnd end
-IsNext c text (n.Token found) = IsFound c text found
+IsNext c text (n.Token found) = IsNextToken c text found
 
 -- this refusal is here, or in the gap that begins here
 abbrev pub IsRefusedHere : LexicalContext → List ℕ → Refusal → Type 0

@@ -68,24 +68,24 @@ FlowsBack bases both s t = HeadFlow bases both s t × CoversBack bases both s t
 
 -- a type as a test reads it: with each Any as it is if the test is gradual, else as object
 abbrev mutual
-  pub seen : Test → Tree → Tree
-  seen gradual Any = cond gradual Any Object
-  seen gradual Object = Object
-  seen gradual Never = Never
-  seen gradual Int = Int
-  seen gradual Bool = Bool
-  seen gradual Str = Str
-  seen gradual NoneType = NoneType
-  seen gradual (Class c) = Class c
-  seen gradual (ListOf t) = ListOf (seen gradual t)
-  seen gradual (DictOf k v) = DictOf (seen gradual k) (seen gradual v)
-  seen gradual (TupleOf ts) = TupleOf (seen_each gradual ts)
-  seen gradual (Union a b) = Union (seen gradual a) (seen gradual b)
+  pub as_tested : Test → Tree → Tree
+  as_tested gradual Any = cond gradual Any Object
+  as_tested gradual Object = Object
+  as_tested gradual Never = Never
+  as_tested gradual Int = Int
+  as_tested gradual Bool = Bool
+  as_tested gradual Str = Str
+  as_tested gradual NoneType = NoneType
+  as_tested gradual (Class c) = Class c
+  as_tested gradual (ListOf t) = ListOf (as_tested gradual t)
+  as_tested gradual (DictOf k v) = DictOf (as_tested gradual k) (as_tested gradual v)
+  as_tested gradual (TupleOf ts) = TupleOf (seen_each gradual ts)
+  as_tested gradual (Union a b) = Union (as_tested gradual a) (as_tested gradual b)
 
   -- the parts of a tuple as a test reads them
   pub seen_each : Test → Trees → Trees
   seen_each gradual end = end
-  seen_each gradual (more t ts) = more (seen gradual t) (seen_each gradual ts)
+  seen_each gradual (more t ts) = more (as_tested gradual t) (seen_each gradual ts)
 
 -- the heads of two types other than unions fit
 abbrev pub HeadFits : Bases → Tree → Tree → Type 0

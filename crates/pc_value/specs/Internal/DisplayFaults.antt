@@ -5,7 +5,7 @@ use Rattle.pc_value.specs.declared.actions.KeyFault.TheVariants as rust
 use Rattle.pc_value.specs.Value.{Stop, Raised, TypeError, Outside}
 
 -- the stop of a key fault that the program found, if it found one
-abbrev pub fault_of : Option KeyFault → Option Stop
-fault_of None = None
-fault_of (Some rust.Outside) = Some Outside
-fault_of (Some rust.TypeError) = Some (Raised TypeError)
+abbrev pub stop_of_key_fault : Option KeyFault → Option Stop
+stop_of_key_fault None = None
+stop_of_key_fault (Some rust.Outside) = Some Outside
+stop_of_key_fault (Some rust.TypeError) = Some (Raised TypeError)

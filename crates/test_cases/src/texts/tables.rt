@@ -15,12 +15,12 @@ use test_rows::{TableFault, TableRow, Tally, rows};
 
 /// Returns a fault as tables write it: the code of a refusal, and its byte, counted from the end of this many bytes.
 pub fn fault_text(alloc: Global, fault: Fault, before: usize) -> Result<String, AllocError> {
-    match fault {
-        Fault::Refused(Refusal { code, byte }) => {
+    match fault.refusal() {
+        Ok(Refusal { code, byte }) => {
             let byte = byte.wrapping_sub(before);
             format!(in alloc; "{code} {byte}")
         }
-        Fault::OutOfMemory => String::from_str(alloc, "out of memory"),
+        Err(error) => format!(in alloc; "{error}"),
     }
 }
 

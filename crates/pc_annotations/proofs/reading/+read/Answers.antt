@@ -3,7 +3,7 @@ use Rattle.std.proofs.Common.{append_assoc}
 use Rattle.pc_tree.specs.Code.{finding}
 use Rattle.pc_tree.specs.declared.code.Code.TheVariants.{E09, E10}
 use Rattle.pc_tree.specs.Tree.{module_of, ann_of, name_of}
-use Rattle.pc_annotations.specs.Annotations.{applied_type, union_type, reading, readings}
+use Rattle.pc_annotations.specs.Annotations.{applied_type, union_type, reading, read_anns}
 use Rattle.pc_annotations.specs.Listed.{anns_of_list, part_findings, parts_findings}
 use Rattle.pc_annotations.specs.Internal.TypesRead.{IsRead, AreRead, IsReadAny}
 use Rattle.pc_annotations.proofs.Each.{read_more, readings_more, findings_more}
@@ -28,7 +28,7 @@ read_each-loop-part-preserved g t c =
           (sym (readings_more m bases xs k x c.loop-part-test.true c.part-item.is))
           (read_more has tree c.loop-part.store c.read.new.store c.loop-part.heads.items c.push.new.self.items
           c.in_ok-reading.reading.head c.loop-part.types c.in_ok-types.types c.in_ok-reading.reading.ty
-          (readings m bases (anns_of_list (take k xs))) (reading m bases (ann_of x)) c.read.ensures.kept v.read
+          (read_anns m bases (anns_of_list (take k xs))) (reading m bases (ann_of x)) c.read.ensures.kept v.read
           c.in_ok-reading.ensures.typed c.in_ok-push.ensures.items c.in_ok-types.ensures);
       found = c.in_ok-reading.ensures.pushed ∙ ap (λ l. l ++ part_findings m bases (ann_of x)) v.found
           ∙ findings_more m bases xs k x c.args.found.now.items c.loop-part-test.true c.part-item.is;
@@ -47,7 +47,7 @@ read-returns-in-Some-2-clause-typed g t c =
     let bases = c.args.outline.now.parents.now in
     let anns = anns_of_list c.in-Apply.arguments.items in
     let r = c.meaning-meaning-in-Apply.result in
-    let f = applied_type r (readings m bases anns) in
+    let f = applied_type r (read_anns m bases anns) in
     let v = c.in_ok-reading-in-Apply.ensures.value _ c.in_ok-types-in-Apply.ensures.typed in
     let h : IsReadAny g.S.TypeStore.has g.S.TypeStore.tree c.apply.new.store
     (Some (c.in-Some-2.reading.head, c.in-Some-2.reading.ty)) f =
@@ -63,7 +63,7 @@ read-returns-in-Some-2-clause-pushed g t c =
     let bases = c.args.outline.now.parents.now in
     let anns = anns_of_list c.in-Apply.arguments.items in
     let r = c.meaning-meaning-in-Apply.result in
-    let f = applied_type r (readings m bases anns) in
+    let f = applied_type r (read_anns m bases anns) in
     let v = c.in_ok-reading-in-Apply.ensures.value _ c.in_ok-types-in-Apply.ensures.typed in
     let h : IsReadAny g.S.TypeStore.has g.S.TypeStore.tree c.apply.new.store
     (Some (c.in-Some-2.reading.head, c.in-Some-2.reading.ty)) f =
@@ -81,7 +81,7 @@ read-returns-in-Apply-clause-typed g t c =
     let bases = c.args.outline.now.parents.now in
     let anns = anns_of_list c.in-Apply.arguments.items in
     let r = c.meaning-meaning-in-Apply.result in
-    let f = applied_type r (readings m bases anns) in
+    let f = applied_type r (read_anns m bases anns) in
     let v = c.in_ok-reading-in-Apply.ensures.value _ c.in_ok-types-in-Apply.ensures.typed in
     let h : IsReadAny g.S.TypeStore.has g.S.TypeStore.tree c.apply.new.store None f =
     rw (c.in-None-2.is, c.deref.ensures.value) at v in
@@ -96,7 +96,7 @@ read-returns-in-Apply-clause-pushed g t c =
     let bases = c.args.outline.now.parents.now in
     let anns = anns_of_list c.in-Apply.arguments.items in
     let r = c.meaning-meaning-in-Apply.result in
-    let f = applied_type r (readings m bases anns) in
+    let f = applied_type r (read_anns m bases anns) in
     let v = c.in_ok-reading-in-Apply.ensures.value _ c.in_ok-types-in-Apply.ensures.typed in
     let old = c.args.found.now.items in
     let h : IsReadAny g.S.TypeStore.has g.S.TypeStore.tree c.apply.new.store None f =
@@ -117,7 +117,7 @@ read-returns-in-Some-4-clause-typed g t c =
     let m = module_of c.args.outline.now.tree.now in
     let bases = c.args.outline.now.parents.now in
     let anns = anns_of_list c.in-Union.parts.items in
-    let f = union_type bases (readings m bases anns) in
+    let f = union_type bases (read_anns m bases anns) in
     let v = c.in_ok-reading-in-Union.ensures.value _ c.in_ok-types-in-Union.ensures.typed in
     let h : IsReadAny g.S.TypeStore.has g.S.TypeStore.tree c.unite.new.store
     (Some (c.in-Some-4.reading.head, c.in-Some-4.reading.ty)) f =
@@ -132,7 +132,7 @@ read-returns-in-Some-4-clause-pushed g t c =
     let m = module_of c.args.outline.now.tree.now in
     let bases = c.args.outline.now.parents.now in
     let anns = anns_of_list c.in-Union.parts.items in
-    let f = union_type bases (readings m bases anns) in
+    let f = union_type bases (read_anns m bases anns) in
     let v = c.in_ok-reading-in-Union.ensures.value _ c.in_ok-types-in-Union.ensures.typed in
     let h : IsReadAny g.S.TypeStore.has g.S.TypeStore.tree c.unite.new.store
     (Some (c.in-Some-4.reading.head, c.in-Some-4.reading.ty)) f =
@@ -149,7 +149,7 @@ read-returns-clause-typed g t c =
     let m = module_of c.args.outline.now.tree.now in
     let bases = c.args.outline.now.parents.now in
     let anns = anns_of_list c.in-Union.parts.items in
-    let f = union_type bases (readings m bases anns) in
+    let f = union_type bases (read_anns m bases anns) in
     let v = c.in_ok-reading-in-Union.ensures.value _ c.in_ok-types-in-Union.ensures.typed in
     let h : IsReadAny g.S.TypeStore.has g.S.TypeStore.tree c.unite.new.store None f =
     rw (c.in-None-4.is, c.deref-in-Union.ensures.value) at v in
@@ -162,7 +162,7 @@ read-returns-clause-pushed g t c =
     let m = module_of c.args.outline.now.tree.now in
     let bases = c.args.outline.now.parents.now in
     let anns = anns_of_list c.in-Union.parts.items in
-    let f = union_type bases (readings m bases anns) in
+    let f = union_type bases (read_anns m bases anns) in
     let v = c.in_ok-reading-in-Union.ensures.value _ c.in_ok-types-in-Union.ensures.typed in
     let old = c.args.found.now.items in
     let h : IsReadAny g.S.TypeStore.has g.S.TypeStore.tree c.unite.new.store None f =

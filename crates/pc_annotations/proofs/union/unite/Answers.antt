@@ -4,21 +4,21 @@ use Rattle.pc_tree.specs.Tree.{module_of}
 use Rattle.pc_types.specs.Shape.{nodes_of, node_limit, trees, union}
 use Rattle.pc_types.specs.Normal.{IsNormal}
 use Rattle.pc_types.specs.Store.{MeansWithin}
-use Rattle.pc_annotations.specs.Annotations.{in_union_order, readings}
+use Rattle.pc_annotations.specs.Annotations.{in_union_order, read_anns}
 use Rattle.pc_annotations.specs.Internal.TypesRead.{united_head}
 use Rattle.pc_annotations.proofs.Uniting.{no_union, one_union, is_one, union_large, union_of_many, union_is_normal}
 use Rattle.pc_annotations.proofs.union.unite.Goals as goal
 
 pub returns-then-not-is_union-clause-value : goal.returns-then-not-is_union-clause-value
 returns-then-not-is_union-clause-value g c parts r =
-    let ts = readings (module_of c.args.outline.now.tree.now) c.args.outline.now.parents.now parts in
+    let ts = read_anns (module_of c.args.outline.now.tree.now) c.args.outline.now.parents.now parts in
     no_union g.S.TypeStore.has g.S.TypeStore.tree c.args.store.now c.args.outline.now.parents.now ts c.deref.result.now
     (c.deref.ensures.value ∙ r.heads_are) (sym c.if-not-is_union.true ∙ c.in_ok-is_union.ensures)
 
 pub returns-in_default-clause-value : goal.returns-in_default-clause-value
 returns-in_default-clause-value g c parts r =
     let bases = c.args.outline.now.parents.now in
-    let ts = readings (module_of c.args.outline.now.tree.now) bases parts in
+    let ts = read_anns (module_of c.args.outline.now.tree.now) bases parts in
     let many = r.types_are in
     let large : node_limit < nodes_of (trees ts) = rw c.in_default.is at many in
     one_union g.S.TypeStore.has g.S.TypeStore.tree c.args.store.now bases ts c.deref.result.now
@@ -31,7 +31,7 @@ pub returns-then-len-gt-MOST_MEMBERS-clause-value : goal.returns-then-len-gt-MOS
 returns-then-len-gt-MOST_MEMBERS-clause-value g c parts r =
     let bases = c.args.outline.now.parents.now in
     let tree = g.S.TypeStore.tree in
-    let ts = readings (module_of c.args.outline.now.tree.now) bases parts in
+    let ts = read_anns (module_of c.args.outline.now.tree.now) bases parts in
     let those = r.types_are in
     let q : All (g.S.TypeStore.has c.args.store.now) c.in-Some.types.items × (map tree c.in-Some.types.items ≡ ts) =
     rw c.in-Some.is at those in
@@ -55,7 +55,7 @@ union-requires-clause-order g c =
     let m = module_of c.args.outline.now.tree.now in
     let bases = c.args.outline.now.parents.now in
     let tree = g.S.TypeStore.tree in
-    let ts = readings m bases parts in
+    let ts = read_anns m bases parts in
     let those = r.types_are in
     let q : All (g.S.TypeStore.has c.args.store.now) c.in-Some.types.items × (map tree c.in-Some.types.items ≡ ts) =
     rw c.in-Some.is at those in
@@ -70,7 +70,7 @@ returns-clause-value g c parts r =
     let m = module_of c.args.outline.now.tree.now in
     let bases = c.args.outline.now.parents.now in
     let tree = g.S.TypeStore.tree in
-    let ts = readings m bases parts in
+    let ts = read_anns m bases parts in
     let those = r.types_are in
     let q : All (g.S.TypeStore.has c.args.store.now) c.in-Some.types.items × (map tree c.in-Some.types.items ≡ ts) =
     rw c.in-Some.is at those in

@@ -6,7 +6,7 @@ use Rattle.pc_annotations.specs.ModuleOutlines.{module_in}
 use Rattle.pc_class.specs.Facts.{TypedParameter}
 use Rattle.pc_class.specs.declared.table.Parameter.{Parameter as RustParameter}
 use Rattle.pc_notes.specs.Notes.{Note, notes_of}
-use Rattle.pc_rules.specs.Computed.Signatures.{bound_in, with_name, binds_text, default_findings}
+use Rattle.pc_rules.specs.Computed.Signatures.{is_in_names, with_name, binds_text, default_findings}
 use Rattle.pc_rules.proofs.Checkers.{goes_further}
 use Rattle.pc_callables.proofs.HeldSignatures.{params_kept}
 use Rattle.pc_callables.proofs.SignatureWalks.{stepped, typed_at, typed_many, defaults_found}
@@ -35,7 +35,7 @@ loop-number-preserved g c =
     let v = c.loop-number.invariant in
     let less = c.loop-number-test.true in
     let within : i < length ts = (let many = v.many in omega (arith, many, less)) in
-    let bound = bound_in c.loop-number.bound in
+    let bound = is_in_names c.loop-number.bound in
     let d = param_of x in
     let read = get_or ts i t in
     let typed = ap (λ (p : RustParameter _). tree p.ty) (sym c.index-typed-number.is)
@@ -52,7 +52,7 @@ loop-number-preserved g c =
       given = params_kept has c.loop-number.checker.store.now c.find_default.new.checker.store.now
           c.find_default.ensures.goes_on.kept ts v.given;
       found = stepped (notes_of c.loop-number.checker.found.now) (notes_of c.find_default.new.checker.found.now) _ _ _ _
-          v.found (defaults_found m bound (bound_in c.bind.new.bound) ps i x less c.index-params-number.is
+          v.found (defaults_found m bound (is_in_names c.bind.new.bound) ps i x less c.index-params-number.is
           (c.in_ok-bind.ensures ∙ ap (with_name bound) c.as_str-in-loop-number.ensures.value)) found;
       goes_on = goes_further v.goes_on c.find_default.ensures.goes_on;
     }

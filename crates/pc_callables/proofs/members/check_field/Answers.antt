@@ -11,8 +11,8 @@ use Rattle.pc_class.specs.Entries.{parameter_made}
 use Rattle.pc_class.specs.Facts.{TypedParameter, ClassFacts, field_by_name, class_facts_at, base_facts, classes_of}
 use Rattle.pc_class.specs.Tables.{parameter_lent, IsFieldIfAny}
 use Rattle.pc_notes.specs.Notes.{Note, notes_of}
-use Rattle.pc_rules.specs.Computed.Checkers.{Finds}
-use Rattle.pc_rules.specs.Computed.Signatures.{bound_in, binds_as_field, default_findings}
+use Rattle.pc_rules.specs.Computed.Checkers.{AddsNotes}
+use Rattle.pc_rules.specs.Computed.Signatures.{is_in_names, binds_as_field, default_findings}
 use Rattle.pc_callables.proofs.MembersHeld.{unbound, bound_as, no_default}
 use Rattle.pc_callables.proofs.members.check_field.Goals as goal
 
@@ -27,7 +27,7 @@ returns-in-None-clause-found g c =
     let m = module_in c.args.globals.now.outline.now in
     let tree = g.S.TypeStore.tree in
     let d = field_of c.args.field.now in
-    let bound = bound_in c.args.bound.now in
+    let bound = is_in_names c.args.bound.now in
     let notes = notes_of c.args.checker.now.found.now in
     let binds = binds_as_field (base_facts (classes_of m) c.args.class.base) bound d.name.text in
     let text = c.as_str.ensures.value in
@@ -50,7 +50,7 @@ returns-in-Some-clause-found g c =
     let m = module_in c.args.globals.now.outline.now in
     let tree = g.S.TypeStore.tree in
     let d = field_of c.args.field.now in
-    let bound = bound_in c.args.bound.now in
+    let bound = is_in_names c.args.bound.now in
     let binds = binds_as_field (base_facts (classes_of m) c.args.class.base) bound d.name.text in
     let text = c.as_str.ensures.value in
     let held = c.in-Some.held in
@@ -64,5 +64,5 @@ returns-in-Some-clause-found g c =
     c.requires.globals.outline.parents
     ∙ ap (λ b. default_findings (bases_of m) b d.default (tree held.now.ty)) (sym is.0)
     ∙ ap (default_findings (bases_of m) binds d.default) typed in
-    subst (λ (l : List Note). OnOk c.find_default.result (Finds c.args.checker.now c.find_default.new.checker l)) same
+    subst (λ (l : List Note). OnOk c.find_default.result (AddsNotes c.args.checker.now c.find_default.new.checker l)) same
     c.find_default.ensures.found

@@ -13,8 +13,8 @@ use Rattle.pc_notes.specs.Notes.{Note, notes_of}
 use Rattle.pc_rules.specs.Calls.{method_signature}
 use Rattle.pc_rules.specs.Context.{Signature}
 use Rattle.pc_rules.specs.Signatures.{signature_of}
-use Rattle.pc_rules.specs.Computed.Checkers.{Finds}
-use Rattle.pc_rules.specs.Computed.Signatures.{bound_in, no_name, with_name, binds_as_method, method_findings}
+use Rattle.pc_rules.specs.Computed.Checkers.{AddsNotes}
+use Rattle.pc_rules.specs.Computed.Signatures.{is_in_names, no_name, with_name, binds_as_method, method_findings}
 use Rattle.pc_rules.specs.Computed.Signatures.{def_findings, params_defaults}
 use Rattle.pc_callables.proofs.MembersHeld.{unbound, bound_as}
 use Rattle.pc_callables.proofs.members.read_method.Goals as goal
@@ -29,7 +29,7 @@ returns-in-None-clause-found g c =
     let m = module_in c.args.globals.now.outline.now in
     let tree = g.S.TypeStore.tree in
     let d = func_of c.args.def.now in
-    let bound = bound_in c.args.bound.now in
+    let bound = is_in_names c.args.bound.now in
     let binds = binds_as_method (base_facts (classes_of m) c.args.class.base) bound d.name.text in
     let text = c.as_str.ensures.value in
     let found = sym (ap (option_map (method_lent tree)) c.in-None.is) ∙ c.held_method.ensures.value tree
@@ -37,10 +37,10 @@ returns-in-None-clause-found g c =
     let free = unbound method_signature binds
     (method_by_name (class_facts_at (classes_of m) c.args.class.number).methods d.name.text) (signature_of m d) found
     c.requires.held in
-    let named : bound_in c.bind.new.bound ≡ with_name no_name (codes "self") = c.in_ok-bind.ensures
+    let named : is_in_names c.bind.new.bound ≡ with_name no_name (codes "self") = c.in_ok-bind.ensures
     ∙ ap (λ ks. with_name (λ t. is_one_of t (map string_bytes ks)) (codes "self")) c.with_hasher-names.ensures.empty in
     let same = ap (λ b. def_findings m b d) named ∙ ap (λ b. method_findings m b d) (sym free) in
-    subst (λ (l : List Note). OnOk c.read_signature.result (Finds c.args.checker.now c.read_signature.new.checker l))
+    subst (λ (l : List Note). OnOk c.read_signature.result (AddsNotes c.args.checker.now c.read_signature.new.checker l))
     same c.read_signature.ensures.found
 
 pub copy_signature-requires : goal.copy_signature-requires
@@ -59,7 +59,7 @@ find_defaults-requires-clause-same g c =
     let m = module_in c.args.globals.now.outline.now in
     let tree = g.S.TypeStore.tree in
     let d = func_of c.args.def.now in
-    let bound = bound_in c.args.bound.now in
+    let bound = is_in_names c.args.bound.now in
     let binds = binds_as_method (base_facts (classes_of m) c.args.class.base) bound d.name.text in
     let text = c.as_str.ensures.value in
     let held = c.in-Some.held in
@@ -77,7 +77,7 @@ returns-clause-found g c =
     let m = module_in c.args.globals.now.outline.now in
     let tree = g.S.TypeStore.tree in
     let d = func_of c.args.def.now in
-    let bound = bound_in c.args.bound.now in
+    let bound = is_in_names c.args.bound.now in
     let binds = binds_as_method (base_facts (classes_of m) c.args.class.base) bound d.name.text in
     let text = c.as_str.ensures.value in
     let held = c.in-Some.held in
@@ -86,7 +86,7 @@ returns-clause-found g c =
     let is = bound_as method_signature binds
     (method_by_name (class_facts_at (classes_of m) c.args.class.number).methods d.name.text) (method_lent tree held)
     (signature_of m d) found c.requires.held in
-    let named : bound_in c.bind.new.bound ≡ with_name no_name (codes "self") = c.in_ok-bind.ensures
+    let named : is_in_names c.bind.new.bound ≡ with_name no_name (codes "self") = c.in_ok-bind.ensures
     ∙ ap (λ ks. with_name (λ t. is_one_of t (map string_bytes ks)) (codes "self")) c.with_hasher-names.ensures.empty in
     let same = ap (λ b. params_defaults m b (map param_of c.deref.result.now)) named
     ∙ ap (λ (ps : List RustParam). params_defaults m (with_name no_name (codes "self")) (map param_of ps))

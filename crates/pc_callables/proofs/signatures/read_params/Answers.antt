@@ -3,7 +3,7 @@ use Rattle.pc_tree.specs.Tree.{param_of}
 use Rattle.pc_class.specs.Facts.{typed_parameter}
 use Rattle.pc_class.specs.Tables.{HasParameter, parameter_with, parameters_with}
 use Rattle.pc_notes.specs.Notes.{notes_of}
-use Rattle.pc_rules.specs.Computed.Signatures.{bound_in, with_name}
+use Rattle.pc_rules.specs.Computed.Signatures.{is_in_names, with_name}
 use Rattle.pc_rules.proofs.Checkers.{goes_further}
 use Rattle.pc_annotations.specs.ModuleOutlines.{module_in}
 use Rattle.pc_callables.proofs.HeldSignatures.{params_kept, held_push}
@@ -33,8 +33,8 @@ loop-param-preserved g c =
           (pushed_one (parameter_with tree) c.loop-param.all.items c.push.new.self.items c.in_ok-one.one
           (typed_parameter m (param_of x)) c.in_ok-push.ensures.items one.is);
       found = stepped (notes_of c.loop-param.checker.found.now) (notes_of c.check_param.new.checker.found.now) _ _ _ _
-          v.found (params_found m (bound_in c.loop-param.bound) (bound_in c.bind.new.bound) ps i x less is
-          (c.in_ok-bind.ensures ∙ ap (with_name (bound_in c.loop-param.bound)) c.as_str.ensures.value))
+          v.found (params_found m (is_in_names c.loop-param.bound) (is_in_names c.bind.new.bound) ps i x less is
+          (c.in_ok-bind.ensures ∙ ap (with_name (is_in_names c.loop-param.bound)) c.as_str.ensures.value))
           c.in_ok-one.ensures.found;
       goes_on = goes_further v.goes_on c.check_param.ensures.goes_on;
     }

@@ -2,6 +2,7 @@ use Rattle.std.proofs.Common.{◌∙◌, sym, ap}
 use Rattle.pc_scope.specs.declared.resolution.NameMeaning.{NameMeaning}
 use Rattle.pc_flow.specs.Stored.{env_of}
 use Rattle.pc_notes.specs.Notes.{notes_of}
+use Rattle.pc_rules.specs.Computed.ModuleParents.{class_parents}
 use Rattle.pc_module_rules.specs.Computed.Statements.{enter_name}
 use Rattle.pc_check.specs.Internal.Entry.{entered}
 use Rattle.pc_check.proofs.Entered.{local_entered, none_copied}
@@ -18,7 +19,7 @@ returns-clause-bound g c =
     let table = env_of tree w.declared.now in
     let env = env_of tree c.args.env.now in
     let none = sym c.declared.ensures ∙ none_copied c.declared.result (sym c.is_some.ensures ∙ c.if-is_some.false) in
-    let entry = local_entered S.has tree w.context.globals.now.outline.now.parents.now w.store.now w.declared.now
+    let entry = local_entered S.has tree (class_parents w.context.globals.now) w.store.now w.declared.now
     c.args.env.now x c.args.ty.now
     c.in_ok-first.first c.in_ok-current.current h.declared h.current c.requires.ty c.in_ok-first.ensures
     c.in_ok-current.ensures none in

@@ -11,7 +11,8 @@ use Rattle.pc_class.proofs.WellFormed.{params_well_formed}
 use Rattle.pc_flow.specs.Environment.{Env, none_assigned}
 use Rattle.pc_flow.specs.Stored.{env_of}
 use Rattle.pc_notes.specs.Notes.{Note, notes_of}
-use Rattle.pc_module_rules.specs.Computed.Statements.{BindingResult, BodyContext, Table, end_finds, enter_parameters}
+use Rattle.pc_rules.specs.Computed.ModuleParents.{class_parents}
+use Rattle.pc_module_rules.specs.Computed.Statements.{BindingResult, BodyContext, DeclaredTypes, end_finds, enter_parameters}
 use Rattle.pc_module_rules.specs.Computed.Statements.{walk_suite}
 use Rattle.pc_module_rules.specs.Modules.{receiver_parameter}
 use Rattle.pc_walk.specs.declared.context.BodyContext.{BodyContext as RustBodyContext}
@@ -28,7 +29,7 @@ pub enter_receiver-requires : goal.enter_receiver-requires
 enter_receiver-requires g c =
     let S = g.S.TypeStore in
     let w = c.args.walk.now in
-    let none = none_holds (S.has w.store.now) S.tree w.context.globals.now.outline.now.parents.now c.args.count in
+    let none = none_holds (S.has w.store.now) S.tree (class_parents w.context.globals.now) c.args.count in
     record {
       context = c.requires.context;
       declared = rw c.requires.declared none;
@@ -45,15 +46,15 @@ enter-requires-clause-params g c =
     let m = module_of old.context.globals.now.outline.now.tree.now in
     let given = All-weaker (HasParameter (S.has old.store.now)) (HasParameter (S.has new.store.now))
     (λ p h. on.kept p.ty h) params c.requires.given in
-    let bases : bases_of m ≡ old.context.globals.now.outline.now.parents.now =
+    let bases : bases_of m ≡ (class_parents old.context.globals.now) =
     sym (ap (λ (x : BodyContext). x.context.bases) c.requires.body) in
     let well_formed = subst (λ bases. ParametersWellFormed bases (parameters_with S.tree params)) bases
     (subst (ParametersWellFormed (bases_of m)) (sym c.requires.params)
     (params_well_formed m (func_of c.args.def.now).params))
     in
     in_body_context S old new (λ (f : RustBodyContext _). All (λ p. HoldsType (S.has new.store.now) S.tree
-    f.globals.now.outline.now.parents.now
-    p.ty) params) on (parameters_hold (S.has new.store.now) S.tree old.context.globals.now.outline.now.parents.now
+    (class_parents f.globals.now)
+    p.ty) params) on (parameters_hold (S.has new.store.now) S.tree (class_parents old.context.globals.now)
     params given well_formed)
 
 pub check_suite-requires-clause-stands : goal.check_suite-requires-clause-stands
@@ -66,7 +67,7 @@ check_suite-requires-clause-long g c =
     let tree = g.S.TypeStore.tree in
     let old = c.args.walk.now in
     let mid = c.enter_receiver.new.walk in
-    let none : Table = none_assigned c.args.count in
+    let none : DeclaredTypes = none_assigned c.args.count in
     let receiver = receiver_parameter c.args.owner in
     let declared = ap (env_of tree) c.requires.declared ∙ none_is tree c.args.count in
     let env = ap (env_of tree) c.in_ok-env.ensures ∙ none_is tree c.args.count in
@@ -76,12 +77,12 @@ check_suite-requires-clause-long g c =
     let received : (table, first) ≡ enter_parameters resolve none none receiver =
     ap (λ (b : BindingResult). (b.table, b.env)) c.in_ok-enter_receiver.ensures.bound.is
     ∙ (λ i. enter_parameters resolve (declared i) (env i) receiver) in
-    let between = subst (λ (r : Table × Env). length r.1 ≡ length r.0) (sym received)
+    let between = subst (λ (r : DeclaredTypes × Env). length r.1 ≡ length r.0) (sym received)
     (entered_long resolve none none receiver refl) in
     let behind = entered_long (meanings mid.context.names.now) table first (parameters_with tree c.args.params.now)
     between in
     record {
-      env_long = subst (λ (r : Table × Env). length r.1 ≡ length r.0)
+      env_long = subst (λ (r : DeclaredTypes × Env). length r.1 ≡ length r.0)
           (sym (ap (λ (b : BindingResult). (b.table, b.env)) c.in_ok-enter.ensures.bound.is)) behind;
       broken_long = tt;
     }
@@ -108,8 +109,8 @@ returns-clause-pushed g c =
     let found = notes_of old.found.now in
     let declared_is = ap (env_of tree) c.requires.declared ∙ none_is tree n in
     let env_is = ap (env_of tree) c.in_ok-env.ensures ∙ none_is tree n in
-    let middle : Table × Env = (env_of tree first.declared.now, env_of tree c.enter_receiver.new.env) in
-    let start : Table × Env = (env_of tree mid.declared.now, env_of tree env) in
+    let middle : DeclaredTypes × Env = (env_of tree first.declared.now, env_of tree c.enter_receiver.new.env) in
+    let start : DeclaredTypes × Env = (env_of tree mid.declared.now, env_of tree env) in
     let body = reached S later out c.check_suite.new.exit.env in
     let g1 = c.enter_receiver.ensures.goes_on in
     let g2 = goes_further g1 c.enter.ensures.goes_on in

@@ -20,8 +20,9 @@ use Rattle.pc_flow.specs.Stored.{env_of}
 use Rattle.pc_notes.specs.Notes.{notes_of}
 use Rattle.pc_rules.specs.Computed.Findings.{codes_at}
 use Rattle.pc_rules.specs.Computed.Standing.{finds_in, narrowed_standing}
+use Rattle.pc_rules.specs.Computed.ModuleParents.{class_parents}
 use Rattle.pc_rules.proofs.Along.{on_ok}
-use Rattle.pc_module_rules.specs.Computed.Statements.{Walk as Reached, BranchesResult, BindingResult, at, narrowed_at}
+use Rattle.pc_module_rules.specs.Computed.Statements.{Walk as Reached, BranchesResult, BindingResult, standing_here, narrowed_at}
 use Rattle.pc_module_rules.specs.Computed.Statements.{head_at}
 use Rattle.pc_module_rules.specs.Computed.Statements.{option_finds, bind_item, with_note, item_label_of, iterable_finds}
 use Rattle.pc_module_rules.specs.Computed.Statements.{step}
@@ -40,7 +41,7 @@ use Rattle.pc_walk.proofs.Settled.{agreed_taken_in, suite_taken_in, next_taken_i
 use Rattle.pc_walk.proofs.Untouched.{narrowed_long, head_at_long, item_long}
 use Rattle.pc_walk.proofs.Walks.{same_walk, goes_further, in_body_context, env_kept, way_kept, one_kept, context_on}
 use Rattle.pc_walk.proofs.Walks.{stands_on}
-use Rattle.pc_check.specs.Internal.StatementWalk.{IsLong, IsAsLongIfAny, BreaksSettle, BreaksStaySettled}
+use Rattle.pc_check.specs.Internal.StatementWalk.{HasAllLocals, IsAsLongIfAny, BreaksSettle, BreaksStaySettled}
 use Rattle.pc_check.specs.Internal.Walked.{StandsIn, Walked, reached, forked}
 use Rattle.pc_check.proofs.Agreed.{step_long, among_same, first_touched, later_touched, well_formed_if_any}
 use Rattle.pc_check.proofs.Breaking.{self_among, self_agrees, way_more, way_before, starts_settled, noted_more}
@@ -101,7 +102,7 @@ check_suite-loop-statement-preserved g t c =
     let first = reached S c.args.walk.now c.args.env c.args.exit.now.env in
     let next = stmts_next c.args.body.now i c.statement-item.result c.loop-statement-test.true c.statement-item.is in
     let held = well_formed_if_any (S.has here.walk.store.now) S.tree
-    here.walk.context.globals.now.outline.now.parents.now here.env
+    (class_parents here.walk.context.globals.now) here.env
     v.stands.current in
     let unsettled = c.args.exit.now.unsettled.items in
     let middle = here.exit.unsettled.items in
@@ -110,12 +111,12 @@ check_suite-loop-statement-preserved g t c =
     record {
       goes_on = goes_further v.goes_on on;
       stands = w.stands;
-      long = subst IsLong (sym w.is) (step_long context before.table before.env before.broken before.found s v.long);
+      long = subst HasAllLocals (sym w.is) (step_long context before.table before.env before.broken before.found s v.long);
       breaks = c.in_ok-env.ensures.settled;
       settled = in_body_context S here.walk new (λ (f : RustBodyContext _). (locals : List ℕ) (base : Option Env)
-          → BreaksSettle f.globals.now.outline.now.parents.now locals (touched_by (meanings f.names.now) all) unsettled
+          → BreaksSettle (class_parents f.globals.now) locals (touched_by (meanings f.names.now) all) unsettled
           first.broken base first.env
-          → BreaksSettle f.globals.now.outline.now.parents.now locals (touched_by (meanings f.names.now) rest) later
+          → BreaksSettle (class_parents f.globals.now) locals (touched_by (meanings f.names.now) rest) later
           behind.broken base behind.env) on
           (λ locals base h.
           let here_settled = v.settled locals base h in
@@ -140,7 +141,7 @@ check_suite-returns-clause-breaks g t c =
     let v = here.invariant in
     let all = stmts_of_list c.args.body.now in
     let first = reached S c.args.walk.now c.args.env c.args.exit.now.env in
-    subst (λ (f : RustBodyContext _). BreaksStaySettled f.globals.now.outline.now.parents.now
+    subst (λ (f : RustBodyContext _). BreaksStaySettled (class_parents f.globals.now)
     (touched_by (meanings f.names.now) all) c.args.exit.now.unsettled.items here.exit.unsettled.items first.broken
     first.env
     (option_map (env_of S.tree) here.exit.env)) v.goes_on.context (λ locals base h. (v.settled locals base h).taken_in)
@@ -188,7 +189,7 @@ check_next-returns-in_ok-note_touched-in-Some-clause-breaks g t c = λ locals ba
     let S = g.S.TypeStore in
     let old = c.args.walk.now in
     let later = c.check_stmt.new.walk in
-    let bases = old.context.globals.now.outline.now.parents.now in
+    let bases = (class_parents old.context.globals.now) in
     let s = stmt_of c.args.statement.now in
     let touched = touched_by_stmt (meanings later.context.names.now) s in
     noted_more bases (env_of S.tree) c.check_stmt.new.exit.env c.check_stmt.new.exit.unsettled.items touched
@@ -216,7 +217,7 @@ check_next-returns-in_ok-note_touched-in-Some-clause-settled g t c =
     let w = c.in_ok-out-in-Some.ensures.walked in
     let on = c.check_stmt.ensures.goes_on in
     let stands = subst (λ (o : _). StandsIn S old o c.args.exit.now.env) c.in-Some.is c.requires.stands in
-    let long = subst (λ (o : _). IsLong (reached S old o c.args.exit.now.env)) c.in-Some.is c.requires.long in
+    let long = subst (λ (o : _). HasAllLocals (reached S old o c.args.exit.now.env)) c.in-Some.is c.requires.long in
     let breaks = subst (λ (o : _). WayTakesIn bases c.args.exit.now.unsettled.items before.broken
     (option_map (env_of S.tree) o)) c.in-Some.is c.requires.breaks in
     let noted = subst (λ (f : RustBodyContext _). AreNoted c.check_stmt.new.exit.env
@@ -228,7 +229,7 @@ check_next-returns-in_ok-note_touched-in-Some-clause-settled g t c =
     let agree = subst (λ (x : Reached). WaysAgree touched (Some (env_of S.tree env)) x.env) (sym w.is)
     (step_agrees context touched before.table before.env before.broken before.found s (Some (env_of S.tree env))
     stands.current.well_formed long (self_among touched) (self_agrees touched (Some (env_of S.tree env)))) in
-    in_body_context S old later (λ (f : RustBodyContext _). WayTakesIn f.globals.now.outline.now.parents.now
+    in_body_context S old later (λ (f : RustBodyContext _). WayTakesIn (class_parents f.globals.now)
     c.note_touched.new.unsettled.items behind.broken behind.env) on
     (noted_settles bases (env_of S.tree) c.check_stmt.new.exit.env c.check_stmt.new.exit.unsettled.items touched
     c.note_touched.new.unsettled.items (env_of S.tree env) behind.env noted one agree)
@@ -242,7 +243,7 @@ pub check_stmt-returns-in_ok-break_out-in-Break-clause-breaks :
     goal.check_stmt-returns-in_ok-break_out-in-Break-clause-breaks
 check_stmt-returns-in_ok-break_out-in-Break-clause-breaks g t c = λ locals base h.
     let tree = g.S.TypeStore.tree in
-    way_before c.args.walk.now.context.globals.now.outline.now.parents.now c.break_out.new.unsettled.items locals
+    way_before (class_parents c.args.walk.now.context.globals.now) c.break_out.new.unsettled.items locals
     (option_map (env_of tree) c.break_out.new.broken) base (env_of tree c.args.env) h.agree
     c.in_ok-break_out-in-Break.ensures.settled
 
@@ -313,8 +314,8 @@ check_stmt-returns-in_ok-env-in-Assert-clause-walked g t c =
     let K = standing_in S old c.args.env in
     let condition = expr_of c.in-Assert.condition.value in
     let message = option_expr_of c.in-Assert.text in
-    let behind = rw c.deref.ensures at a.behind.is in
-    let pushed = rw c.deref.ensures at a.finds.pushed in
+    let behind = rw c.deref.ensures standing_here a.behind.is in
+    let pushed = rw c.deref.ensures standing_here a.finds.pushed in
     rw c.in-Assert.is (record {
       is = λ i. record {
         table = env_of S.tree (a.finds.declared i);
@@ -337,7 +338,7 @@ check_stmt-returns-in_ok-env-in-Annotated-clause-walked g t c =
     let S = g.S.TypeStore in
     let old = c.args.walk.now in
     let new = c.bind_annotated.new.walk in
-    let b = rw c.deref-in-Annotated.ensures at c.in_ok-env-in-Annotated.ensures.bound in
+    let b = rw c.deref-in-Annotated.ensures standing_here c.in_ok-env-in-Annotated.ensures.bound in
     let way = c.args.exit.now.env in
     rw c.in-Annotated.is (record {
       is = ap (behind_binding (body_context_in S old) (option_map (env_of S.tree) way)) b.is;
@@ -357,7 +358,7 @@ check_stmt-returns-in_ok-env-in-Assign-clause-walked g t c =
     let S = g.S.TypeStore in
     let old = c.args.walk.now in
     let new = c.assign_target.new.walk in
-    let b = rw c.deref-in-Assign.ensures at c.in_ok-env-in-Assign.ensures.bound in
+    let b = rw c.deref-in-Assign.ensures standing_here c.in_ok-env-in-Assign.ensures.bound in
     let way = c.args.exit.now.env in
     rw c.in-Assign.is (record {
       is = ap (behind_binding (body_context_in S old) (option_map (env_of S.tree) way)) b.is;
@@ -460,7 +461,7 @@ check_stmt-returns-in_ok-out-in-If-clause-breaks g t c = λ locals base h.
     let agree = subst (λ (r : BranchesResult). WaysAgree locals base (Some r.last)) (sym f.walked.is)
     (branches_agree context locals before.table before.last before.broken before.found later base
     c.requires.stands.current.well_formed c.requires.long.env_long parts.0 h.agree) in
-    let two = subst (λ (x : RustBodyContext _). BreaksStaySettled x.globals.now.outline.now.parents.now
+    let two = subst (λ (x : RustBodyContext _). BreaksStaySettled (class_parents x.globals.now)
     (touched_by (meanings x.names.now) suite) c.check_branches.new.exit.unsettled.items
     c.check_otherwise.new.exit.unsettled.items
     behind.broken (Some behind.last) out) c.check_branches.ensures.goes_on.context c.in_ok-out-in-If.ensures.breaks in
@@ -592,7 +593,7 @@ check_while-returns-clause-walked g t c = λ p way held.
       table = table;
       env = Some (narrowed_at context table true condition first);
       broken = Some (narrowed_at context table false condition first);
-      found = notes_of old.found.now ++ finds_in (at context table first) None condition;
+      found = notes_of old.found.now ++ finds_in (standing_here context table first) None condition;
     } = λ i. record {
       table = env_of S.tree ((a.finds.declared ∙ q.declared) i);
       env = Some ((a.where_true.is ∙ narrowed_from S old mid on q head first start.is true condition) i);
@@ -666,7 +667,7 @@ check_for-check_suite-requires g t c κs within =
     touched in
     let copy = env_of S.tree copied.field-0 in
     let here = subst (λ (r : BindingResult). AgreeOutside locals head r.env) (sym b.is) agree in
-    let held = gives_types S.has S.tree mid.context.globals.now.outline.now.parents.now mid.store.now copied.field-0
+    let held = gives_types S.has S.tree (class_parents mid.context.globals.now) mid.store.now copied.field-0
     head copied.ensures
     start.holds.well_formed in (
       first_of (omega (arith, c.decreases), search rules, grind (arith, c.decreases)),
@@ -686,7 +687,7 @@ check_for-check_suite-requires g t c κs within =
                 env_long = ap (λ (r : BindingResult). length r.env) b.is ∙ sizes.1 ∙ sym table_long;
                 broken_long = ap (λ (e : Env). length e) copied.ensures.is ∙ head_long ∙ sym table_long;
               },
-              in_body_context S mid new (λ (f : RustBodyContext _). WayTakesIn f.globals.now.outline.now.parents.now
+              in_body_context S mid new (λ (f : RustBodyContext _). WayTakesIn (class_parents f.globals.now)
                   locals (Some copy) (Some (env_of S.tree c.in_ok-inside.inside))) on
                   (agreed_taken_in context.context.bases locals copy (env_of S.tree c.in_ok-inside.inside)
                   held.holds.well_formed
@@ -806,7 +807,7 @@ check_otherwise-meet-requires-clause-taken_in g t c =
     let agrees = subst (λ (x : Reached). AgreesIfAny touched fork.last x.env) (sym c.in_ok-out.ensures.walked.is)
     (otherwise_settles context touched fork.table fork.last fork.broken fork.found o
     c.requires.stands.current.well_formed c.requires.settled.last_long among) in
-    in_body_context S old new (λ (f : RustBodyContext _). WayTakesIn f.globals.now.outline.now.parents.now
+    in_body_context S old new (λ (f : RustBodyContext _). WayTakesIn (class_parents f.globals.now)
     (ways.unsettled.items ++ touched) fork.ways out) on
     (suite_taken_in context.context.bases ways.unsettled.items touched fork.ways out fork.last
     c.requires.settled.taken_in agrees)
@@ -818,7 +819,7 @@ pub check_otherwise-returns-clause-walked : goal.check_otherwise-returns-clause-
 check_otherwise-returns-clause-walked g t c =
     let S = g.S.TypeStore in
     let mid = c.check_suite.new.walk in
-    let new = c.meet.new.walk in
+    let new = c.join_exit.new.walk in
     let context = body_context_in S c.args.walk.now in
     let s = c.in_ok-out.ensures.walked in
     let j = c.in_ok-joined.ensures in
@@ -829,10 +830,10 @@ check_otherwise-returns-clause-walked g t c =
     let met : option_map (env_of S.tree) joined ≡ with_way context.context.bases out.table ways out.env =
     j.joined.is ∙ (λ i. with_way (c.check_suite.ensures.goes_on.context i).globals.now.outline.now.parents.now out.table
     ways out.env) in
-    let stood = quiet_stands S mid new c.meet.ensures.goes_on j.quiet None broken
+    let stood = quiet_stands S mid new c.join_exit.ensures.goes_on j.quiet None broken
     (record { context = s.stands.context; declared = s.stands.declared; current = tt; out = s.stands.out }) in
     record {
-      is = quiet_reached S mid new c.meet.ensures.goes_on j.quiet joined broken
+      is = quiet_reached S mid new c.join_exit.ensures.goes_on j.quiet joined broken
           ∙ otherwise_walked context ways out _ (option_map (env_of S.tree) joined) s.is met;
       stands = record { context = stood.context; declared = stood.declared; current = j.joined.holds; out = stood.out };
     }
@@ -894,9 +895,9 @@ check_branches-loop-branch-preserved g t c =
       settled = c.in_ok-fork.ensures.settled;
       breaks = c.in_ok-fork.ensures.breaks_settle;
       kept = in_body_context S here.walk new (λ (f : RustBodyContext _). (locals : List ℕ) (base : Option Env)
-          → BreaksSettle f.globals.now.outline.now.parents.now locals (touched_by_branches (meanings f.names.now) all)
+          → BreaksSettle (class_parents f.globals.now) locals (touched_by_branches (meanings f.names.now) all)
           unsettled first.broken base (Some first.last)
-          → BreaksSettle f.globals.now.outline.now.parents.now locals (touched_by_branches (meanings f.names.now) rest)
+          → BreaksSettle (class_parents f.globals.now) locals (touched_by_branches (meanings f.names.now) rest)
           later behind.broken base (Some behind.last)) on
           (λ locals base h.
           let kept = v.kept locals base h in
@@ -924,7 +925,7 @@ check_branches-returns-clause-breaks g t c =
     let v = here.invariant in
     let all = branches_of_list c.args.branches.now in
     let first = forked S c.args.walk.now c.args.env None c.args.exit.now.env in
-    subst (λ (f : RustBodyContext _). BreaksStaySettled f.globals.now.outline.now.parents.now
+    subst (λ (f : RustBodyContext _). BreaksStaySettled (class_parents f.globals.now)
     (touched_by_branches (meanings f.names.now) all) c.args.exit.now.unsettled.items here.exit.unsettled.items
     first.broken
     (Some first.last) (option_map (env_of S.tree) here.exit.env)) v.goes_on.context
@@ -992,7 +993,7 @@ check_branch-check_suite-requires g t c κs within =
                 (Some ways.where_true) c.args.exit.now.env a.where_true.holds
                 c.requires.stands.out,
             (
-              subst (λ (t : _). IsLong (record {
+              subst (λ (t : _). HasAllLocals (record {
                 table = t;
                 env = Some (env_of S.tree ways.where_true);
                 broken = broken;
@@ -1002,7 +1003,7 @@ check_branch-check_suite-requires g t c κs within =
                     ∙ narrowed_long context table true condition (env_of S.tree last) agree.last_long;
                 broken_long = agree.broken_long;
               }),
-              in_body_context S old new (λ (f : RustBodyContext _). WayTakesIn f.globals.now.outline.now.parents.now
+              in_body_context S old new (λ (f : RustBodyContext _). WayTakesIn (class_parents f.globals.now)
                   noted_now broken (Some (env_of S.tree ways.where_true))) c.type_condition.ensures.goes_on
                   (subst (λ (e : Env). WayTakesIn bases noted_now broken (Some e)) (sym a.where_true.is) breaks),
             ),
@@ -1059,7 +1060,7 @@ check_branch-meet-requires-clause-taken_in g t c =
     let branched = branch_out context touched fork.table fork.last fork.broken found condition body
     (reached S mid (Some where_true) c.args.exit.now.env) out c.requires.stands.current.well_formed
     c.requires.settled.last_long c.requires.settled.broken_long among start walked in
-    in_body_context S old later (λ (f : RustBodyContext _). WayTakesIn f.globals.now.outline.now.parents.now
+    in_body_context S old later (λ (f : RustBodyContext _). WayTakesIn (class_parents f.globals.now)
     (ways.unsettled.items ++ touched) fork.ways out.env) g2
     (suite_taken_in context.context.bases ways.unsettled.items touched fork.ways out.env fork.last
     c.requires.settled.taken_in branched.agrees)
@@ -1089,9 +1090,9 @@ check_branch-returns-clause-breaks g t c = λ locals base h.
     let agree = subst (λ (e : Env). WaysAgree locals base (Some e)) (sym a.where_true.is)
     (narrowed_agrees context locals fork.table fork.last true condition base c.requires.stands.current.well_formed
     c.requires.settled.last_long parts.0 h.agree) in
-    let suite = subst (λ (x : RustBodyContext _). BreaksStaySettled x.globals.now.outline.now.parents.now
+    let suite = subst (λ (x : RustBodyContext _). BreaksStaySettled (class_parents x.globals.now)
     (touched_by (meanings x.names.now) body) noted_now left fork.broken (Some (env_of S.tree where_true)) broken)
-    g1.context (subst (λ ss. BreaksStaySettled c.type_condition.new.walk.context.globals.now.outline.now.parents.now
+    g1.context (subst (λ ss. BreaksStaySettled (class_parents c.type_condition.new.walk.context.globals.now)
     (touched_by (meanings c.type_condition.new.walk.context.names.now) (stmts_of_list ss)) noted_now left fork.broken
     (Some (env_of S.tree where_true)) broken) c.deref-3.ensures.value c.in_ok-out.ensures.breaks) in
     let noted : AreNoted c.args.exit.now.env unsettled touched noted_now =
@@ -1113,13 +1114,13 @@ check_branch-returns-clause-breaks_settle g t c =
     let S = g.S.TypeStore in
     let old = c.args.walk.now in
     let mid = c.type_condition.new.walk in
-    let new = c.meet.new.walk in
+    let new = c.join_exit.new.walk in
     let a = c.in_ok-where_true.ensures in
     let ways = c.in_ok-where_true.field-0 in
     let context = body_context_in S old in
     let bases = context.context.bases in
     let g1 = c.type_condition.ensures.goes_on in
-    let g3 = goes_further (goes_further g1 c.check_suite.ensures.goes_on) c.meet.ensures.goes_on in
+    let g3 = goes_further (goes_further g1 c.check_suite.ensures.goes_on) c.join_exit.ensures.goes_on in
     let condition = expr_of (out-Branch c.args.branch.now).condition in
     let body = stmts_of_list (out-Branch c.args.branch.now).body.items in
     let touched = c.in_ok-touched.touched.items in
@@ -1142,9 +1143,9 @@ check_branch-returns-clause-breaks_settle g t c =
     (narrowed true) in
     let where_false = subst (λ (e : Env). WaysAgree touched (Some fork.last) (Some e)) (sym a.where_false.is)
     (narrowed false) in
-    let suite = subst (λ (x : RustBodyContext _). BreaksStaySettled x.globals.now.outline.now.parents.now
+    let suite = subst (λ (x : RustBodyContext _). BreaksStaySettled (class_parents x.globals.now)
     (touched_by (meanings x.names.now) body) noted_now left fork.broken (Some (env_of S.tree ways.where_true)) broken)
-    g1.context (subst (λ ss. BreaksStaySettled mid.context.globals.now.outline.now.parents.now
+    g1.context (subst (λ ss. BreaksStaySettled (class_parents mid.context.globals.now)
     (touched_by (meanings mid.context.names.now) (stmts_of_list ss)) noted_now left fork.broken
     (Some (env_of S.tree ways.where_true)) broken) c.deref-3.ensures.value c.in_ok-out.ensures.breaks) in
     let noted : AreNoted c.args.exit.now.env unsettled touched noted_now =
@@ -1156,7 +1157,7 @@ check_branch-returns-clause-breaks_settle g t c =
     let before = noted_more bases (env_of S.tree) c.args.exit.now.env unsettled touched noted_now touched
     (Some fork.last) noted (way_more bases unsettled touched fork.broken (Some fork.last) c.requires.breaks) in
     let behind = suite touched (Some fork.last) (record { among = parts.1; agree = where_true; taken_in = before }) in
-    in_body_context S old new (λ (f : RustBodyContext _). WayTakesIn f.globals.now.outline.now.parents.now later broken
+    in_body_context S old new (λ (f : RustBodyContext _). WayTakesIn (class_parents f.globals.now) later broken
     (Some (env_of S.tree ways.where_false))) g3
     (noted_settles bases (env_of S.tree) c.check_suite.new.exit.env left touched later fork.last
     (Some (env_of S.tree ways.where_false)) again behind where_false)
@@ -1167,7 +1168,7 @@ check_branch-returns-clause-walked g t c =
     let old = c.args.walk.now in
     let mid = c.type_condition.new.walk in
     let later = c.check_suite.new.walk in
-    let new = c.meet.new.walk in
+    let new = c.join_exit.new.walk in
     let a = c.in_ok-where_true.ensures in
     let ways = c.in_ok-where_true.field-0 in
     let s = c.in_ok-out.ensures.walked in
@@ -1193,7 +1194,7 @@ check_branch-returns-clause-walked g t c =
       table = fork.table;
       env = Some (narrowed_at context fork.table true condition fork.last);
       broken = fork.broken;
-      found = fork.found ++ finds_in (at context fork.table fork.last) None condition;
+      found = fork.found ++ finds_in (standing_here context fork.table fork.last) None condition;
     } = λ i. record {
       table = env_of S.tree (a.finds.declared i);
       env = Some (a.where_true.is i);
@@ -1213,7 +1214,7 @@ check_branch-returns-clause-walked g t c =
       broken = out.broken;
       found = j.quiet.found i;
     } in
-    let stood = quiet_stands S later new c.meet.ensures.goes_on j.quiet None broken
+    let stood = quiet_stands S later new c.join_exit.ensures.goes_on j.quiet None broken
     (record { context = s.stands.context; declared = s.stands.declared; current = tt; out = s.stands.out }) in
     record {
       is = quiet
@@ -1224,7 +1225,7 @@ check_branch-returns-clause-walked g t c =
         context = stood.context;
         declared = stood.declared;
         current = env_kept S mid new ways.where_false
-            (goes_further c.check_suite.ensures.goes_on c.meet.ensures.goes_on) a.where_false.holds;
+            (goes_further c.check_suite.ensures.goes_on c.join_exit.ensures.goes_on) a.where_false.holds;
         out = stood.out;
       };
       met = j.joined.holds;
@@ -1273,7 +1274,7 @@ check_branch-returns-clause-settled g t c =
     let branched = branch_out context touched fork.table fork.last fork.broken found condition body
     (reached S mid (Some where_true) c.args.exit.now.env) out c.requires.stands.current.well_formed
     c.requires.settled.last_long c.requires.settled.broken_long among start walked in
-    let new = c.meet.new.walk in
+    let new = c.join_exit.new.walk in
     let next = env_of S.tree c.in_ok-where_true.field-0.where_false in
     let left = c.in_ok-ways.ways.unsettled.items in
     let met = option_map (env_of S.tree) c.in_ok-ways.ways.met in
@@ -1281,15 +1282,15 @@ check_branch-returns-clause-settled g t c =
     let next_is : next ≡ narrowed_at context fork.table false condition fork.last = a.where_false.is in
     let table_is : env_of S.tree new.declared.now ≡ out.table = ap (env_of S.tree) q.declared in
     let before = in_body_context S old later (λ (f : RustBodyContext _).
-    TakesInIfAny f.globals.now.outline.now.parents.now ways.unsettled.items fork.ways fork.last) g2
+    TakesInIfAny (class_parents f.globals.now) ways.unsettled.items fork.ways fork.last) g2
     c.requires.settled.taken_in in
     let settled = c.in_ok-ways.ensures.settled fork.last branched.agrees before in
     let onwards = in_body_context S later new (λ (f : RustBodyContext _).
-    TakesInIfAny f.globals.now.outline.now.parents.now left met fork.last) c.meet.ensures.goes_on settled in
+    TakesInIfAny (class_parents f.globals.now) left met fork.last) c.join_exit.ensures.goes_on settled in
     let agree = subst (λ (e : Env). AgreeOutside touched e fork.last) (sym next_is) branched.next_agrees in
     record {
       last_long = ap length next_is ∙ branched.last_long ∙ ap length (sym table_is);
       broken_long = subst (λ (table : _). IsAsLongIfAny table out.broken) (sym table_is) branched.broken_long;
-      taken_in = next_taken_in new.context.globals.now.outline.now.parents.now left touched met fork.last next
+      taken_in = next_taken_in (class_parents new.context.globals.now) left touched met fork.last next
           (λ x h. c.in_ok-ways.ensures.touched x h) agree onwards;
     }

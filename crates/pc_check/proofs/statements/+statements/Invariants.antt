@@ -4,11 +4,12 @@ use Rattle.pc_tree.specs.Tree.{stmts_of_list}
 use Rattle.pc_tree.specs.Lists.{branches_of_list}
 use Rattle.pc_flow.specs.Environment.{Env}
 use Rattle.pc_flow.specs.Naming.{meanings}
+use Rattle.pc_rules.specs.Computed.ModuleParents.{class_parents}
 use Rattle.pc_module_rules.specs.Computed.Statements.{walk_suite, walk_branches}
 use Rattle.pc_walk.specs.Touched.{touched_by, touched_by_branches}
 use Rattle.pc_walk.specs.Walks.{WalkKept, HoldsWay, body_context_in}
-use Rattle.pc_check.specs.Internal.StatementWalk.{IsLong, ForkSettles, BreaksSettle}
-use Rattle.pc_check.specs.Internal.Walked.{StandsIn, Settles, reached, forked}
+use Rattle.pc_check.specs.Internal.StatementWalk.{HasAllLocals, ForkSettles, BreaksSettle}
+use Rattle.pc_check.specs.Internal.Walked.{StandsIn, ExitSubsumes, reached, forked}
 use Rattle.pc_check.proofs.statements.+statements.Given as goal
 
 abbrev pub invariant-check_suite-loop-statement : goal.invariant-check_suite-loop-statement
@@ -17,13 +18,13 @@ invariant-check_suite-loop-statement g l =
     let rest = stmts_of_list (drop l.statement-index l.body) in
     let before = reached S l.fn.walk l.fn.env l.fn.exit.env in
     let here = reached S l.walk l.env l.exit.env in
-    let bases = l.walk.context.globals.now.outline.now.parents.now in
+    let bases = (class_parents l.walk.context.globals.now) in
     let resolve = meanings l.walk.context.names.now in
     record {
       goes_on : WalkKept S l.fn.walk l.walk;
       stands : StandsIn S l.walk l.env l.exit.env;
-      long : IsLong (reached S l.walk l.env l.exit.env);
-      breaks : Settles S l.walk l.exit.unsettled.items l.env l.exit.env;
+      long : HasAllLocals (reached S l.walk l.env l.exit.env);
+      breaks : ExitSubsumes S l.walk l.exit.unsettled.items l.env l.exit.env;
       settled : (locals : List ℕ) (base : Option Env)
           → BreaksSettle bases locals (touched_by resolve (stmts_of_list l.body)) l.fn.exit.unsettled.items
           before.broken base
@@ -39,14 +40,14 @@ invariant-check_branches-loop-branch g l =
     let rest = branches_of_list (drop l.branch-index l.branches) in
     let here = forked S l.walk l.fork.last l.fork.ways.met l.exit.env in
     let before = forked S l.fn.walk l.fn.env None l.fn.exit.env in
-    let bases = l.walk.context.globals.now.outline.now.parents.now in
+    let bases = (class_parents l.walk.context.globals.now) in
     let resolve = meanings l.walk.context.names.now in
     record {
       goes_on : WalkKept S l.fn.walk l.walk;
       stands : StandsIn S l.walk (Some l.fork.last) l.exit.env;
       ways : HoldsWay S l.walk l.fork.ways.met;
-      settled : ForkSettles l.walk.context.globals.now.outline.now.parents.now l.fork.ways.unsettled.items here;
-      breaks : Settles S l.walk l.exit.unsettled.items (Some l.fork.last) l.exit.env;
+      settled : ForkSettles (class_parents l.walk.context.globals.now) l.fork.ways.unsettled.items here;
+      breaks : ExitSubsumes S l.walk l.exit.unsettled.items (Some l.fork.last) l.exit.env;
       kept : (locals : List ℕ) (base : Option Env)
           → BreaksSettle bases locals (touched_by_branches resolve (branches_of_list l.branches))
           l.fn.exit.unsettled.items

@@ -8,12 +8,12 @@ use Rattle.pc_tree.specs.Code.{at_code}
 use Rattle.pc_class.specs.declared.entries.ClassMember.{ClassMember as RustEntry}
 use Rattle.pc_class.specs.declared.parts.ClassNode.{ClassNode}
 use Rattle.pc_class.specs.declared.parts.ClassArena.{ClassArena}
-use Rattle.pc_class.specs.Entries.{MemberEntry, inherited_in, inherited_by, entries_of, entry_seen}
+use Rattle.pc_class.specs.Entries.{MemberEntry, inherited_in, inherited_by, entries_of_members, entry_seen}
 use Rattle.pc_class.specs.Entries.{class_entries, clash_places, late_places, defaulted_in}
 use Rattle.pc_class.specs.Outlines.{IsMapOf, field_name, method_name as class_method_name, own_field, own_method}
 use Rattle.pc_class.specs.Outlines.{all_own, AreNew}
 use Rattle.pc_class.specs.Tables.{inherited_entry, HasParameter, HasMethod, parameter_with, method_with}
-use Rattle.pc_class.specs.Parts.{parameter_name, stored_method_name, inherited_node, entries_in}
+use Rattle.pc_class.specs.Parts.{parameter_name, stored_method_name, inherited_node, classes_of_table}
 use Rattle.pc_annotations.specs.ModuleOutlines.{module_in}
 use Rattle.pc_class.specs.Annotated.{fields_annotated, methods_annotated}
 use Rattle.pc_class.specs.Built.{Added, members_of_entries}
@@ -33,7 +33,7 @@ entries-requires g c =
     let number : c.len-number.result ≡ length ns = search rules in
     let based = base_next m (length ns) class c.requires.class _ c.requires.outline.parents c.len-number.result number
     base c.base-base.ensures.value in
-    base_maps g.S.TypeStore.tree m p.named p.fields.items p.methods.items ns (entries_in p) c.requires.table class
+    base_maps g.S.TypeStore.tree m p.named p.fields.items p.methods.items ns (classes_of_table p) c.requires.table class
     c.requires.class base based c.inherited-inherited.result (c.inherited-inherited.ensures
     ∙ ap (λ (xs : List ClassNode). inherited_node xs base) c.deref.ensures.value)
 
@@ -47,7 +47,7 @@ add_fields-requires-clause-map g c =
     let number : c.len-number.result ≡ length ns = search rules in
     let based = base_next m (length ns) class c.requires.class _ c.requires.outline.parents c.len-number.result number
     base c.base-base.ensures.value in
-    (base_maps g.S.TypeStore.tree m p.named p.fields.items p.methods.items ns (entries_in p) c.requires.table class
+    (base_maps g.S.TypeStore.tree m p.named p.fields.items p.methods.items ns (classes_of_table p) c.requires.table class
     c.requires.class base based c.inherited-inherited.result (c.inherited-inherited.ensures
     ∙ ap (λ (xs : List ClassNode). inherited_node xs base) c.deref.ensures.value)).fields
 
@@ -61,7 +61,7 @@ add_methods-requires-clause-map g c =
     let number : c.len-number.result ≡ length ns = search rules in
     let based = base_next m (length ns) class c.requires.class _ c.requires.outline.parents c.len-number.result number
     base c.base-base.ensures.value in
-    let h = (base_maps g.S.TypeStore.tree m p.named p.fields.items p.methods.items ns (entries_in p) c.requires.table
+    let h = (base_maps g.S.TypeStore.tree m p.named p.fields.items p.methods.items ns (classes_of_table p) c.requires.table
     class
     c.requires.class base based c.inherited-inherited.result (c.inherited-inherited.ensures
     ∙ ap (λ (xs : List ClassNode). inherited_node xs base) c.deref.ensures.value)).methods in
@@ -78,7 +78,7 @@ returns-clause-added g c =
     let F = p.fields.items in
     let M = p.methods.items in
     let ns = p.classes.items in
-    let es = entries_in p in
+    let es = classes_of_table p in
     let base = c.base-base.result in
     let number : c.len-number.result ≡ length ns = search rules in
     let based = base_next m (length ns) class c.requires.class _ c.requires.outline.parents c.len-number.result number
@@ -91,9 +91,9 @@ returns-clause-added g c =
     let BC = base_class tree m d F M ns es c.requires.table class c.requires.class base based in
     let xs = class_entries (inherited_by BC) class in
     let found_entries : map entry_seen c.in_ok-members.members.items ≡ xs =
-    c.in_ok-members.ensures ∙ ap (λ (ys : List RustMember). entries_of (inherited_in d o.held) [] 0 (map member_of ys))
+    c.in_ok-members.ensures ∙ ap (λ (ys : List RustMember). entries_of_members (inherited_in d o.held) [] 0 (map member_of ys))
     c.deref-2.ensures.value
-    ∙ ap (λ (n : ClassNode). entries_of (inherited_in d n.held) [] 0 class.members) o_is
+    ∙ ap (λ (n : ClassNode). entries_of_members (inherited_in d n.held) [] 0 class.members) o_is
     ∙ entries_are tree m d F M ns es c.requires.table class c.requires.class base based in
     let entries4 : map entry_seen c.deref-4.result.now ≡ xs = ap (λ (ys : List RustEntry). map entry_seen ys)
     c.deref-4.ensures.value ∙ found_entries in
@@ -164,7 +164,7 @@ returns-clause-found g c =
     let F = p.fields.items in
     let M = p.methods.items in
     let ns = p.classes.items in
-    let es = entries_in p in
+    let es = classes_of_table p in
     let base = c.base-base.result in
     let number : c.len-number.result ≡ length ns = search rules in
     let based = base_next m (length ns) class c.requires.class _ c.requires.outline.parents c.len-number.result number
@@ -177,9 +177,9 @@ returns-clause-found g c =
     let BC = base_class tree m d F M ns es c.requires.table class c.requires.class base based in
     let xs = class_entries (inherited_by BC) class in
     let found_entries : map entry_seen c.in_ok-members.members.items ≡ xs =
-    c.in_ok-members.ensures ∙ ap (λ (ys : List RustMember). entries_of (inherited_in d o.held) [] 0 (map member_of ys))
+    c.in_ok-members.ensures ∙ ap (λ (ys : List RustMember). entries_of_members (inherited_in d o.held) [] 0 (map member_of ys))
     c.deref-2.ensures.value
-    ∙ ap (λ (n : ClassNode). entries_of (inherited_in d n.held) [] 0 class.members) o_is
+    ∙ ap (λ (n : ClassNode). entries_of_members (inherited_in d n.held) [] 0 class.members) o_is
     ∙ entries_are tree m d F M ns es c.requires.table class c.requires.class base based in
     let entries3 : map entry_seen c.deref-3.result.now ≡ xs = ap (λ (ys : List RustEntry). map entry_seen ys)
     c.deref-3.ensures.value ∙ found_entries in
@@ -209,7 +209,7 @@ returns-clause-annotated g c =
     let F = p.fields.items in
     let M = p.methods.items in
     let ns = p.classes.items in
-    let es = entries_in p in
+    let es = classes_of_table p in
     let old = c.args.reader.now.found.now.items in
     let ms = class.members in
     let base = c.base-base.result in
@@ -221,13 +221,13 @@ returns-clause-annotated g c =
     ∙ ap (λ (xs : List ClassNode). inherited_node xs base) c.deref.ensures.value in
     let BC = base_class tree m d F M ns es c.requires.table class c.requires.class base based in
     let xs = class_entries (inherited_by BC) class in
-    let found_entries : map entry_seen c.in_ok-members.members.items ≡ entries_of (inherited_in d o.held) [] 0 ms =
-    c.in_ok-members.ensures ∙ ap (λ (ys : List RustMember). entries_of (inherited_in d o.held) [] 0 (map member_of ys))
+    let found_entries : map entry_seen c.in_ok-members.members.items ≡ entries_of_members (inherited_in d o.held) [] 0 ms =
+    c.in_ok-members.ensures ∙ ap (λ (ys : List RustMember). entries_of_members (inherited_in d o.held) [] 0 (map member_of ys))
     c.deref-2.ensures.value in
     let are = members_are c.in_ok-members.members.items (inherited_in d o.held) ms found_entries in
     let fields : members_of_entries c.deref-5.result.now ≡ ms = ap members_of_entries c.deref-5.ensures.value ∙ are in
     let methods : map entry_seen c.deref-6.result.now ≡ xs = ap (λ (ys : List RustEntry). map entry_seen ys)
-    c.deref-6.ensures.value ∙ found_entries ∙ ap (λ (n : ClassNode). entries_of (inherited_in d n.held) [] 0 ms) o_is
+    c.deref-6.ensures.value ∙ found_entries ∙ ap (λ (n : ClassNode). entries_of_members (inherited_in d n.held) [] 0 ms) o_is
     ∙ entries_are tree m d F M ns es c.requires.table class c.requires.class base based in
     c.in_ok-methods.ensures.found
     ∙ ap (λ (fs : List Finding). fs ++ methods_annotated m (map entry_seen c.deref-6.result.now))

@@ -6,7 +6,7 @@ use Rattle.pc_tree.specs.declared.code.Finding.{Finding}
 use Rattle.pc_scope.specs.Bindings.{as_class}
 use Rattle.pc_class.specs.Facts.{classes_behind}
 use Rattle.pc_class.specs.Tables.{classes_with}
-use Rattle.pc_class.specs.Parts.{entries_in}
+use Rattle.pc_class.specs.Parts.{classes_of_table}
 use Rattle.pc_annotations.specs.ModuleOutlines.{module_in}
 use Rattle.pc_class.specs.Built.{found_behind, annotated_behind}
 use Rattle.pc_class.proofs.building.add_item.Goals as goal
@@ -24,7 +24,7 @@ returns-in_ok-add_class-in-Class-clause-classes g c =
     ap (λ k. as_class (item_of_kind c.args.item.now.first k)) c.in-Class.is in
     let n = length c.args.parts.now.classes.items in
     c.in_ok-add_class-in-Class.ensures.added.classes ∙ ap (λ (o : Option ClassDef). classes_behind m
-    (classes_with g.S.TypeStore.tree (entries_in c.args.parts.now)) n (cons_option o [])) (sym is_class)
+    (classes_with g.S.TypeStore.tree (classes_of_table c.args.parts.now)) n (cons_option o [])) (sym is_class)
 
 pub returns-in_ok-add_class-in-Class-clause-found : goal.returns-in_ok-add_class-in-Class-clause-found
 returns-in_ok-add_class-in-Class-clause-found g c =
@@ -34,7 +34,7 @@ returns-in_ok-add_class-in-Class-clause-found g c =
     let n = length c.args.parts.now.classes.items in
     c.in_ok-add_class-in-Class.ensures.found
     ∙ ap (λ (fs : List Finding). c.args.found.now.items ++ fs) (sym (append-nil _)
-    ∙ ap (λ (o : Option ClassDef). found_behind m (classes_with g.S.TypeStore.tree (entries_in c.args.parts.now)) n
+    ∙ ap (λ (o : Option ClassDef). found_behind m (classes_with g.S.TypeStore.tree (classes_of_table c.args.parts.now)) n
     (cons_option o [])) (sym is_class))
 
 pub returns-in_ok-add_class-in-Class-clause-annotated : goal.returns-in_ok-add_class-in-Class-clause-annotated
@@ -45,5 +45,5 @@ returns-in_ok-add_class-in-Class-clause-annotated g c =
     let n = length c.args.parts.now.classes.items in
     c.in_ok-add_class-in-Class.ensures.annotated
     ∙ ap (λ (fs : List Finding). c.args.reader.now.found.now.items ++ fs) (sym (append-nil _)
-    ∙ ap (λ (o : Option ClassDef). annotated_behind m (classes_with g.S.TypeStore.tree (entries_in c.args.parts.now)) n
+    ∙ ap (λ (o : Option ClassDef). annotated_behind m (classes_with g.S.TypeStore.tree (classes_of_table c.args.parts.now)) n
     (cons_option o [])) (sym is_class))

@@ -9,7 +9,7 @@ use Rattle.pc_class.specs.Facts.{ClassFacts, classes_behind}
 use Rattle.pc_class.specs.Annotated.{class_annotated}
 use Rattle.pc_class.specs.Outlines.{found_over}
 use Rattle.pc_class.specs.Tables.{HasParameter, HasMethod, classes_with}
-use Rattle.pc_class.specs.Parts.{entries_in, entries_behind}
+use Rattle.pc_class.specs.Parts.{classes_of_table, entries_behind}
 use Rattle.pc_annotations.specs.ModuleOutlines.{module_in}
 use Rattle.pc_class.specs.Built.{found_behind, annotated_behind}
 use Rattle.pc_class.proofs.Annotations.{lent_same, lent_on}
@@ -24,10 +24,10 @@ loop-item-init g c =
     let has = g.S.TypeStore.has c.args.reader.now.store.now in
     let p = c.in_ok-parts.parts in
     let all = classes_in (map item_of c.as_slice-items.result.now) in
-    let none : entries_in p ≡ [] = entries_are_behind p ∙ ap (entries_behind p.fields.items p.methods.items [])
+    let none : classes_of_table p ≡ [] = entries_are_behind p ∙ ap (entries_behind p.fields.items p.methods.items [])
     c.in_ok-parts.ensures.classes in
     let long : length p.classes.items ≡ 0 = ap length c.in_ok-parts.ensures.classes in
-    let same : classes_with tree (entries_in p) ≡ [] = ap (classes_with tree) none in
+    let same : classes_with tree (classes_of_table p) ≡ [] = ap (classes_with tree) none in
     record {
       store = λ t h. h;
       table = c.in_ok-parts.ensures.table;
@@ -71,8 +71,8 @@ loop-item-preserved g c =
     let is = c.item-item.is in
     let inv = c.loop-item.invariant in
     let more = c.in_ok-add_item.ensures.more in
-    let e = classes_with tree (entries_in c.loop-item.parts) in
-    let e2 = classes_with tree (entries_in c.add_item.new.parts) in
+    let e = classes_with tree (classes_of_table c.loop-item.parts) in
+    let e2 = classes_with tree (classes_of_table c.add_item.new.parts) in
     record {
       store = λ t h. c.add_item.ensures.store t (inv.store t h);
       table = c.in_ok-add_item.ensures.table;
@@ -93,7 +93,7 @@ returns-clause-classes g c =
     let tree = g.S.TypeStore.tree in
     let items = c.as_slice-items.result.now in
     let n = length c.loop-item.parts.classes.items in
-    let e = classes_with tree (entries_in c.loop-item.parts) in
+    let e = classes_with tree (classes_of_table c.loop-item.parts) in
     ap (λ (xs : List RustItem). classes_behind m e n (classes_in (map item_of xs)))
     (sym (drop_of_length-le items c.loop-item-test.false))
     ∙ c.loop-item.invariant.classes
@@ -106,7 +106,7 @@ returns-clause-found g c =
     let tree = g.S.TypeStore.tree in
     let items = c.as_slice-items.result.now in
     let n = length c.loop-item.parts.classes.items in
-    let e = classes_with tree (entries_in c.loop-item.parts) in
+    let e = classes_with tree (classes_of_table c.loop-item.parts) in
     sym (append-nil c.loop-item.found.items)
     ∙ ap (λ (xs : List RustItem). c.loop-item.found.items ++ found_behind m e n (classes_in (map item_of xs)))
     (sym (drop_of_length-le items c.loop-item-test.false))
@@ -120,7 +120,7 @@ returns-clause-annotated g c =
     let tree = g.S.TypeStore.tree in
     let items = c.as_slice-items.result.now in
     let n = length c.loop-item.parts.classes.items in
-    let e = classes_with tree (entries_in c.loop-item.parts) in
+    let e = classes_with tree (classes_of_table c.loop-item.parts) in
     let now = c.loop-item.reader.found.now.items in
     let old = c.args.reader.now.found.now.items in
     sym (append-nil now)

@@ -11,7 +11,7 @@ use Rattle.pc_class.specs.Annotated.{classes_annotated, member_annotations}
 use Rattle.pc_class.specs.Entries.{missing_bases}
 use Rattle.pc_class.specs.Built.{found_behind, annotated_behind, class_findings}
 use Rattle.pc_class.specs.Facts.{ClassFacts}
-use Rattle.pc_class.specs.Parts.{entries_in}
+use Rattle.pc_class.specs.Parts.{classes_of_table}
 use Rattle.pc_class.specs.Tables.{HasEntries}
 use Rattle.pc_class.proofs.EntriesGiven.{table_given}
 use Rattle.pc_class.proofs.ItemsBuilt.{found_listed, annotated_listed, bases_are, bases_there}
@@ -45,4 +45,4 @@ pub of-requires-clause-parents : goal.of-requires-clause-parents
 of-requires-clause-parents g c =
     c.in_ok-parents.ensures ∙ sym (bases_are (module_of c.args.tree.now))
     ∙ ap (map (λ (x : ClassFacts). x.base)) (sym c.in_ok-parts.ensures.classes)
-    ∙ bases_there g.S.TypeStore.tree (entries_in c.in_ok-parts.parts)
+    ∙ bases_there g.S.TypeStore.tree (classes_of_table c.in_ok-parts.parts)

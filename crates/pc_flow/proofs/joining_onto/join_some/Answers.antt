@@ -7,13 +7,13 @@ use Rattle.pc_flow.proofs.Loops.{firsts_given, firsts_env}
 use Rattle.pc_flow.proofs.Settled.{agreed_takes_in, joined_firsts}
 use Rattle.pc_flow.proofs.joining_onto.join_some.Goals as goal
 
-pub join_env_onto-requires-clause-left : goal.join_env_onto-requires-clause-left
-join_env_onto-requires-clause-left g c = subst (HasEach (g.S.TypeStore.has c.args.store.now)) (sym c.first-a.ensures)
+pub join_at-requires-clause-left : goal.join_at-requires-clause-left
+join_at-requires-clause-left g c = subst (HasEach (g.S.TypeStore.has c.args.store.now)) (sym c.first-a.ensures)
     (firsts_given g.S.TypeStore.has g.S.TypeStore.tree c.args.store.now (length c.types.result.now) c.args.a
     c.requires.left)
 
-pub join_env_onto-requires-clause-taken_in : goal.join_env_onto-requires-clause-taken_in
-join_env_onto-requires-clause-taken_in g c =
+pub join_at-requires-clause-taken_in : goal.join_at-requires-clause-taken_in
+join_at-requires-clause-taken_in g c =
     let tree = g.S.TypeStore.tree in
     let a = env_of tree c.args.a in
     let b = env_of tree c.args.b.now in

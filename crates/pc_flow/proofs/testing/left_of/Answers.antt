@@ -1,6 +1,6 @@
 use Rattle.std.proofs.Common.{refl, ap}
 use Rattle.std.specs.Prelude.{Some}
-use Rattle.pc_flow.specs.declared.testing.Standing.TheVariants.{Beside}
+use Rattle.pc_flow.specs.declared.testing.TestRelation.TheVariants.{Beside}
 use Rattle.pc_flow.proofs.Members.{leaves_at}
 use Rattle.pc_flow.proofs.testing.left_of.Goals as goal
 

@@ -1,7 +1,7 @@
 use Rattle.std.proofs.Common.{[], ◌∷◌, Err, map, ap, ◌∙◌, rules}
 use Rattle.std.proofs.lemmas.List.{map-append}
 use Rattle.std.proofs.lemmas.Result.{err_from_is_err_and}
-use Rattle.pc_token.specs.Lexeme.{line_of, lexeme_of}
+use Rattle.pc_token.specs.Lexeme.{logical_line_of, lexeme_of}
 use Rattle.pc_layout.proofs.Gathering.{gathers_first, gathers_more, gathered, gathered_fault}
 use Rattle.pc_layout.proofs.WithinText.{answer_within}
 use Rattle.pc_layout.proofs.listed.layout.Goals as goal
@@ -36,5 +36,5 @@ pub returns-clause-laid : goal.returns-clause-laid
 returns-clause-laid c = let s = c.in-None.ensures.steps in gathered _ _ _ (c.loop-token.invariant.leads [] s.1)
 
 pub returns-in_err-token-clause-within : goal.returns-in_err-token-clause-within
-returns-in_err-token-clause-within c = λ h. answer_within c.args.source.now (map line_of c.args.lines.now) _ h
+returns-in_err-token-clause-within c = λ h. answer_within c.args.source.now (map logical_line_of c.args.lines.now) _ h
     (returns-in_err-token-clause-refused c)

@@ -3,7 +3,7 @@ use Rattle.std.specs.List.{AllByRecursion}
 use Rattle.pc_tree.specs.declared.code.Code.{Code}
 use Rattle.pc_annotations.specs.Named.{named_module}
 use Rattle.pc_notes.specs.Notes.{Note}
-use Rattle.pc_notes.specs.Texts.{IsFlowText, HasFirstFlows, HasGivenFlows, AreNamed, places_of}
+use Rattle.pc_notes.specs.Texts.{IsFlowText, HasFirstFlows, HasGivenFlows, HaveTexts, places_of}
 use Rattle.pc_notes.proofs.FirstFlows.{IsPairOf}
 use Rattle.pc_notes.proofs.notes.texts_of.Given as goal
 
@@ -14,5 +14,5 @@ invariant-loop-entry l = record {
       → AllByRecursion (IsFlowText (named_module l.names) code notes) l.texts.items;
   left : AllByRecursion (IsPairOf l.flows) l.entry-iterator;
   given : HasGivenFlows l.flows;
-  named : AreNamed (named_module l.names) l.known;
+  named : HaveTexts (named_module l.names) l.known;
 }

@@ -2,7 +2,7 @@ use Rattle.std.proofs.Common.{[], ◌∷◌, ◌++◌, refl, arith, ap}
 use Rattle.std.proofs.lemmas.Result.{err_from_is_err_and}
 use Rattle.pc_tree.specs.Tree.{applied_empty, name_of}
 use Rattle.pc_grammar.specs.Grammar.{span}
-use Rattle.pc_grammar.specs.Machine.{turn}
+use Rattle.pc_grammar.specs.Machine.{transition}
 use Rattle.pc_grammar.specs.Machine.States.{empty_opened, empty_closed, part_read}
 use Rattle.pc_reader.specs.Reading.{lexeme}
 use Rattle.pc_reader.proofs.Building.{starts_more, ends_more, ends_one}
@@ -23,7 +23,7 @@ returns-in_err-close g c = let p = err_from_is_err_and c.from_residual-in_err-cl
     let t = lexeme g.X.AsStr.text c.in_ok-expect.field-0 in
     rw (p.1, p.2) (blame (λ o w. λ ts st parts before s. step_to (empty_opened (name_of c.args.head) ts parts before s)
     (empty_closed (name_of c.args.head) (ts ++ (t ∷ [])) parts before s) c.in_ok-expect.ensures.taken
-    (ap (turn (empty_opened (name_of c.args.head) ts parts before s) t) c.in_ok-expect.ensures.kind) o
+    (ap (transition (empty_opened (name_of c.args.head) ts parts before s) t) c.in_ok-expect.ensures.kind) o
     (w (empty_closed (name_of c.args.head) (ts ++ (t ∷ [])) parts before s)
     (needs (λ u. part_read (applied_empty (span ((ts ++ (t ∷ [])) ++ (u ∷ []))) (name_of c.args.head))
     ((ts ++ (t ∷ [])) ++ (u ∷ [])) parts before s) refl (λ u k. refl)))) c.in_err-close.ensures.taken)
@@ -41,11 +41,11 @@ returns g c = let t = lexeme g.X.AsStr.text c.in_ok-expect.field-0 in let u =
             (ends_more (ts ++ (t ∷ [])) (ends_one u));
         leads = λ parts before s o x. step_to (empty_opened (name_of c.args.head) ts parts before s)
             (empty_closed (name_of c.args.head) (ts ++ (t ∷ [])) parts before s) c.in_ok-expect.ensures.taken
-            (ap (turn (empty_opened (name_of c.args.head) ts parts before s) t) c.in_ok-expect.ensures.kind) o
+            (ap (transition (empty_opened (name_of c.args.head) ts parts before s) t) c.in_ok-expect.ensures.kind) o
             (step_to (empty_closed (name_of c.args.head) (ts ++ (t ∷ [])) parts before s)
             (part_read (applied_empty (span ((ts ++ (t ∷ [])) ++ (u ∷ []))) (name_of c.args.head))
             ((ts ++ (t ∷ [])) ++ (u ∷ [])) parts before s) c.in_ok-close.ensures.taken
-            (ap (turn (empty_closed (name_of c.args.head) (ts ++ (t ∷ [])) parts before s) u)
+            (ap (transition (empty_closed (name_of c.args.head) (ts ++ (t ∷ [])) parts before s) u)
             c.in_ok-close.ensures.kind) o x);
       };
     }

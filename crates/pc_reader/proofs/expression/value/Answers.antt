@@ -2,8 +2,8 @@ use Rattle.std.proofs.Common.{true, false, [], ◌∷◌, refl, ap, ◌∙◌, r
 use Rattle.pc_token.specs.declared.token.TokenKind.TheVariants as kind
 use Rattle.pc_tree.specs.Tree.{name, number, text, truth, nothing}
 use Rattle.pc_grammar.specs.Grammar.{digits_of, characters_of}
-use Rattle.pc_grammar.specs.Machine.Kinds.{start_of}
-use Rattle.pc_grammar.specs.Machine.Expressions.{operand_turn, name_part, part}
+use Rattle.pc_grammar.specs.Machine.Kinds.{operand_start}
+use Rattle.pc_grammar.specs.Machine.Expressions.{operand_turn, name_part, bare_part}
 use Rattle.pc_reader.specs.Reading.{lexeme}
 use Rattle.pc_reader.proofs.Building.{starts_one, ends_one, built}
 use Rattle.pc_reader.specs.Internal.Operands.{a_name}
@@ -14,7 +14,7 @@ pub returns-in_ok-text-in-Int : goal.returns-in_ok-text-in-Int
 returns-in_ok-text-in-Int g c = rw c.node.ensures (
   refl,
   λ v. record {
-    part = (part (λ q. number q (digits_of (lexeme g.X.AsStr.text c.args.token.now).text))
+    bare_part = (bare_part (λ q. number q (digits_of (lexeme g.X.AsStr.text c.args.token.now).text))
         ((lexeme g.X.AsStr.text c.args.token.now) ∷ []));
     keeps = built _ 7 0 0 c.args.token.now.place.start c.args.token.now.place.end
         (λ q. number q (digits_of (lexeme g.X.AsStr.text c.args.token.now).text)) (λ q. refl) (λ q. refl) refl
@@ -23,7 +23,7 @@ returns-in_ok-text-in-Int g c = rw c.node.ensures (
         (starts_one (lexeme g.X.AsStr.text c.args.token.now) [])
         (ends_one (lexeme g.X.AsStr.text c.args.token.now));
     begins = refl;
-    leads = λ s. ap (λ k. operand_turn s (lexeme g.X.AsStr.text c.args.token.now) (start_of k)) c.in-Int.is;
+    leads = λ s. ap (λ k. operand_turn s (lexeme g.X.AsStr.text c.args.token.now) (operand_start k)) c.in-Int.is;
   },
 )
 
@@ -31,7 +31,7 @@ pub returns-in_ok-text-in-Str : goal.returns-in_ok-text-in-Str
 returns-in_ok-text-in-Str g c = rw c.node-in-Str.ensures (
   refl,
   λ v. record {
-    part = (part (λ q. text q (characters_of (lexeme g.X.AsStr.text c.args.token.now).text))
+    bare_part = (bare_part (λ q. text q (characters_of (lexeme g.X.AsStr.text c.args.token.now).text))
         ((lexeme g.X.AsStr.text c.args.token.now) ∷ []));
     keeps = built _ 7 0 0 c.args.token.now.place.start c.args.token.now.place.end
         (λ q. text q (characters_of (lexeme g.X.AsStr.text c.args.token.now).text)) (λ q. refl) (λ q. refl) refl
@@ -39,7 +39,7 @@ returns-in_ok-text-in-Str g c = rw c.node-in-Str.ensures (
         ∙ ap characters_of c.as_str-in-Str.ensures)) (λ q. refl) ((lexeme g.X.AsStr.text c.args.token.now) ∷ [])
         (starts_one (lexeme g.X.AsStr.text c.args.token.now) []) (ends_one (lexeme g.X.AsStr.text c.args.token.now));
     begins = refl;
-    leads = λ s. ap (λ k. operand_turn s (lexeme g.X.AsStr.text c.args.token.now) (start_of k)) c.in-Str.is;
+    leads = λ s. ap (λ k. operand_turn s (lexeme g.X.AsStr.text c.args.token.now) (operand_start k)) c.in-Str.is;
   },
 )
 
@@ -47,13 +47,13 @@ pub returns-in-Keyword-True : goal.returns-in-Keyword-True
 returns-in-Keyword-True g c = rw c.node-in-Keyword-True.ensures (
   refl,
   λ v. record {
-    part = (part (λ q. truth q true) ((lexeme g.X.AsStr.text c.args.token.now) ∷ []));
+    bare_part = (bare_part (λ q. truth q true) ((lexeme g.X.AsStr.text c.args.token.now) ∷ []));
     keeps = built _ 7 0 0 c.args.token.now.place.start c.args.token.now.place.end (λ q. truth q true)
         (λ q. refl) (λ q. refl)
         refl (λ h. refl) (λ q. refl) ((lexeme g.X.AsStr.text c.args.token.now) ∷ [])
         (starts_one (lexeme g.X.AsStr.text c.args.token.now) []) (ends_one (lexeme g.X.AsStr.text c.args.token.now));
     begins = refl;
-    leads = λ s. ap (λ k. operand_turn s (lexeme g.X.AsStr.text c.args.token.now) (start_of k))
+    leads = λ s. ap (λ k. operand_turn s (lexeme g.X.AsStr.text c.args.token.now) (operand_start k))
         (c.in-Keyword-True.is ∙ ap (λ z. kind.Keyword z) (rw c.in-Keyword-True.is at c.in-Keyword-True.field-0-is));
   },
 )
@@ -62,13 +62,13 @@ pub returns-in-Keyword-False : goal.returns-in-Keyword-False
 returns-in-Keyword-False g c = rw c.node-in-Keyword-False.ensures (
   refl,
   λ v. record {
-    part = (part (λ q. truth q false) ((lexeme g.X.AsStr.text c.args.token.now) ∷ []));
+    bare_part = (bare_part (λ q. truth q false) ((lexeme g.X.AsStr.text c.args.token.now) ∷ []));
     keeps = built _ 7 0 0 c.args.token.now.place.start c.args.token.now.place.end (λ q. truth q false)
         (λ q. refl) (λ q. refl)
         refl (λ h. refl) (λ q. refl) ((lexeme g.X.AsStr.text c.args.token.now) ∷ [])
         (starts_one (lexeme g.X.AsStr.text c.args.token.now) []) (ends_one (lexeme g.X.AsStr.text c.args.token.now));
     begins = refl;
-    leads = λ s. ap (λ k. operand_turn s (lexeme g.X.AsStr.text c.args.token.now) (start_of k))
+    leads = λ s. ap (λ k. operand_turn s (lexeme g.X.AsStr.text c.args.token.now) (operand_start k))
         (c.in-Keyword-False.is ∙ ap (λ z. kind.Keyword z) (rw c.in-Keyword-False.is at c.in-Keyword-False.field-0-is));
   },
 )
@@ -77,13 +77,13 @@ pub returns-in-Keyword-None : goal.returns-in-Keyword-None
 returns-in-Keyword-None g c = rw c.node-in-Keyword-None.ensures (
   refl,
   λ v. record {
-    part = (part (λ q. nothing q) ((lexeme g.X.AsStr.text c.args.token.now) ∷ []));
+    bare_part = (bare_part (λ q. nothing q) ((lexeme g.X.AsStr.text c.args.token.now) ∷ []));
     keeps = built _ 7 0 0 c.args.token.now.place.start c.args.token.now.place.end (λ q. nothing q)
         (λ q. refl) (λ q. refl) refl
         (λ h. refl) (λ q. refl) ((lexeme g.X.AsStr.text c.args.token.now) ∷ [])
         (starts_one (lexeme g.X.AsStr.text c.args.token.now) []) (ends_one (lexeme g.X.AsStr.text c.args.token.now));
     begins = refl;
-    leads = λ s. ap (λ k. operand_turn s (lexeme g.X.AsStr.text c.args.token.now) (start_of k))
+    leads = λ s. ap (λ k. operand_turn s (lexeme g.X.AsStr.text c.args.token.now) (operand_start k))
         (c.in-Keyword-None.is ∙ ap (λ z. kind.Keyword z) (rw c.in-Keyword-None.is at c.in-Keyword-None.field-0-is));
   },
 )
@@ -92,7 +92,7 @@ pub returns-in_ok-name-in_default : goal.returns-in_ok-name-in_default
 returns-in_ok-name-in_default g c = rw c.node-in_default.ensures (
   refl,
   λ v. record {
-    part = name_part (lexeme g.X.AsStr.text c.args.token.now);
+    bare_part = name_part (lexeme g.X.AsStr.text c.args.token.now);
     keeps = record {
       starts = starts_one (lexeme g.X.AsStr.text c.args.token.now) [];
       ends =

@@ -5,13 +5,13 @@ use Rattle.std.specs.Rc.{rc_str_bytes}
 use Rattle.std.specs.BTreeMap.{get}
 use Rattle.pc_tree.specs.declared.code.Code.TheVariants.{A1}
 use Rattle.pc_report.specs.declared.flow.FlowTexts.{FlowTexts}
-use Rattle.pc_report.specs.Flows.{FlowEntry, IsListed, place_cmp}
+use Rattle.pc_report.specs.Flows.{FlowEntry, HasFlowAt, place_cmp}
 use Rattle.pc_report.proofs.flow.texts_of.Goals as goal
 
 pub returns-in-None : goal.returns-in-None
 returns-in-None c = λ listed has a l.
     let p = c.args.finding.place in
-    (subst (λ (o : Option (Bor FlowEntry)). MatchOption o (¬ (IsListed listed p)) (λ f. Contains listed f.now
+    (subst (λ (o : Option (Bor FlowEntry)). MatchOption o (¬ (HasFlowAt listed p)) (λ f. Contains listed f.now
     × (f.now.0 ≡ p))) (sym c.in-None.ensures.value) (has p)) l
 
 pub returns-in_ok-new-in-Some : goal.returns-in_ok-new-in-Some
@@ -20,7 +20,7 @@ returns-in_ok-new-in-Some c = λ listed has.
     let f : Bor FlowEntry = c.in-Some.field-0.now in
     let v : Some f ≡ get place_cmp c.args.flows.now p = c.in-Some.ensures.value in
     let found : Contains listed f.now × (f.now.0 ≡ p) = subst (λ (o : Option (Bor FlowEntry)). MatchOption o
-    (¬ (IsListed listed p)) (λ f. Contains listed f.now × (f.now.0 ≡ p))) (sym v) (has p) in
+    (¬ (HasFlowAt listed p)) (λ f. Contains listed f.now × (f.now.0 ≡ p))) (sym v) (has p) in
     let code : c.args.finding.code ≡ A1 = search rules in
     let value = c.in_ok-new-in-Some.ensures.ok in (
       code,

@@ -1,7 +1,7 @@
 use Rattle.std.proofs.Common.{◌≡◌, ◌∙◌, ap, sym, drop, map, arith, ◌+◌, rules}
 use Rattle.std.specs.Prelude.{Err}
 use Rattle.pc_tree.specs.Tree.{item_of}
-use Rattle.pc_run.specs.Internal.Items.{items_in, item_in}
+use Rattle.pc_run.specs.Internal.Items.{module_items_in, item_in}
 use Rattle.pc_machine.specs.Machine.{progress_of, unit}
 use Rattle.pc_machine.specs.Plain.{and_then}
 use Rattle.pc_run.proofs.Defaults.{items_next, items_end}
@@ -22,7 +22,7 @@ loop-item-preserved c = record {
   fuel = omega (arith, c.loop-item.invariant.fuel, c.in_ok-run_item.ensures.fuel);
   run = λ n lt. c.loop-item.invariant.run n lt ∙ items_next n c.args.imports_dataclass c.args.items.now
       c.loop-item.item-index c.item-item.result (progress_of c.loop-item.machine) c.loop-item-test.true c.item-item.is
-      ∙ ap (λ l. and_then l (λ u. items_in n c.args.imports_dataclass
+      ∙ ap (λ l. and_then l (λ u. module_items_in n c.args.imports_dataclass
       (map item_of (drop (c.loop-item.item-index + 1) c.args.items.now))))
       (c.in_ok-run_item.ensures.plain n (omega (arith, c.loop-item.invariant.fuel, lt)));
 }

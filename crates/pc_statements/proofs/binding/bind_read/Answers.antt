@@ -6,6 +6,7 @@ use Rattle.pc_types.specs.Tree.{Tree}
 use Rattle.pc_annotations.specs.Annotations.{read_ann}
 use Rattle.pc_flow.specs.Stored.{env_of}
 use Rattle.pc_notes.specs.Notes.{Note, notes_of}
+use Rattle.pc_rules.specs.Computed.ModuleParents.{class_parents}
 use Rattle.pc_module_rules.specs.Computed.Statements.{annotation_finds, bound_name}
 use Rattle.pc_module_rules.specs.Computed.Statements.{annotated_binding, bind_value}
 use Rattle.pc_walk.specs.AnnotatedNames.{declared_by}
@@ -30,7 +31,7 @@ returns-in-None-clause-bound g c =
     let old = c.args.walk.now in
     let mid = c.annotated_type.new.walk in
     let a = c.in_ok-ty.ensures in
-    let bases = old.context.globals.now.outline.now.parents.now in
+    let bases = (class_parents old.context.globals.now) in
     let F = body_context_in S old in
     let T = env_of tree old.declared.now in
     let E = env_of tree c.args.env in
@@ -42,7 +43,7 @@ returns-in-None-clause-bound g c =
     let ty = c.in_ok-ty.ty in
     let declared = declared_by old.declared.now meaning ty in
     let held = subst (λ (f : RustBodyContext _). HoldsTypeIfAny (S.has mid.store.now) tree
-    f.globals.now.outline.now.parents.now ty)
+    (class_parents f.globals.now) ty)
     c.annotated_type.ensures.goes_on.context a.typed.0 in
     let alone = alone_gives S.has tree bases mid.store.now F old.declared.now meaning ty t a.typed.1 held
     (types_kept S.has tree bases old.store.now mid.store.now c.annotated_type.ensures.goes_on.kept old.declared.now
@@ -52,7 +53,7 @@ returns-in-None-clause-bound g c =
     let table_is = ap (env_of tree) declared_is ∙ alone.is in
     let stood = stands_on S old mid c.args.env c.requires c.annotated_type.ensures.goes_on a.declared in
     let later = subst (λ (f : RustBodyContext _). HoldsTypes (S.has mid.store.now) tree
-    f.globals.now.outline.now.parents.now declared)
+    (class_parents f.globals.now) declared)
     (sym c.annotated_type.ensures.goes_on.context) alone.holds in
     rw c.in-None.is (record {
       is = λ i. record { table = table_is i; env = E; found = a.pushed i };
@@ -79,7 +80,7 @@ returns-in_ok-behind-in-Some-clause-bound g c =
     let found = notes_of old.found.now in
     let after = notes_of mid.found.now in
     let t = read_ann (module_of old.context.globals.now.outline.now.tree.now)
-    old.context.globals.now.outline.now.parents.now annotation in
+    (class_parents old.context.globals.now) annotation in
     let meaning = c.args.meaning in
     let ty = option_map tree c.in_ok-ty.ty in
     let e = expr_of c.deref.result.now in

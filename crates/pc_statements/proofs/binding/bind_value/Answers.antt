@@ -8,6 +8,7 @@ use Rattle.pc_types.specs.Tree.{Tree}
 use Rattle.pc_flow.specs.Stored.{env_of}
 use Rattle.pc_notes.specs.Notes.{notes_of}
 use Rattle.pc_rules.specs.Computed.Standing.{label_in, finds_in}
+use Rattle.pc_rules.specs.Computed.ModuleParents.{class_parents}
 use Rattle.pc_module_rules.specs.Computed.Statements.{bind_label, bind_value}
 use Rattle.pc_walk.specs.Walks.{body_context_in, standing_in}
 use Rattle.pc_walk.proofs.Bound.{known_holds}
@@ -19,7 +20,7 @@ pub type_in-requires-clause-want : goal.type_in-requires-clause-want
 type_in-requires-clause-want g c =
     let S = g.S.TypeStore in
     let w = c.args.walk.now in
-    let bases = w.context.globals.now.outline.now.parents.now in
+    let bases = (class_parents w.context.globals.now) in
     known_holds S.has S.tree bases w.store.now w.declared.now c.in-Local.local (option_map S.tree c.args.annotation)
     c.in_ok-want-in-Local.want c.requires.stands.declared
     (want_well_formed S.has S.tree bases w.store.now c.args.annotation c.requires.annotation)
@@ -29,7 +30,7 @@ pub bind_label-requires-clause-want : goal.bind_label-requires-clause-want
 bind_label-requires-clause-want g c =
     let S = g.S.TypeStore in
     let w = c.args.walk.now in
-    let bases = w.context.globals.now.outline.now.parents.now in
+    let bases = (class_parents w.context.globals.now) in
     let want = c.in_ok-want-in-Local.want in
     want_kept S w c.type_in.new.walk want c.type_in.ensures.goes_on
     (known_holds S.has S.tree bases w.store.now w.declared.now c.in-Local.local (option_map S.tree c.args.annotation)

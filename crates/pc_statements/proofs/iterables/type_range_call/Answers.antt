@@ -10,6 +10,7 @@ use Rattle.pc_rules.specs.Operations.{Label}
 use Rattle.pc_rules.specs.Calls.{arguments_given, range_offers, positional_seat, named_seat, call_label}
 use Rattle.pc_rules.specs.Computed.Findings.{codes_at}
 use Rattle.pc_rules.specs.Computed.Standing.{Standing, MeansLabel, arguments_find, keywords_find}
+use Rattle.pc_rules.specs.Computed.ModuleParents.{class_parents}
 use Rattle.pc_module_rules.specs.Computed.Statements.{item_label_of, iterable_finds}
 use Rattle.pc_walk.specs.StatementsHeld.{GivesLabel, context_in}
 use Rattle.pc_walk.proofs.Held.{declared_is, declared_well_formed}
@@ -28,7 +29,7 @@ type_range-requires g c =
       constants = h.context.constants;
       declared = h.declared.given;
       env = h.current.given;
-      declared_well_formed = declared_well_formed g.S.TypeStore.tree w.context.globals.now.outline.now.parents.now
+      declared_well_formed = declared_well_formed g.S.TypeStore.tree (class_parents w.context.globals.now)
           w.declared.now
           h.declared.well_formed;
       env_well_formed = h.current.well_formed;
@@ -38,7 +39,7 @@ pub returns-clause-labelled : goal.returns-clause-labelled
 returns-clause-labelled g c =
     let S = g.S.TypeStore in
     let w = c.args.walk.now in
-    let bases = w.context.globals.now.outline.now.parents.now in
+    let bases = (class_parents w.context.globals.now) in
     let r = c.args.iterable.now in
     let arguments = exprs_of_list r.arguments.now in
     let keywords = keywords_of_list r.by_name.now in
@@ -60,7 +61,7 @@ pub returns-clause-finds : goal.returns-clause-finds
 returns-clause-finds g c =
     let S = g.S.TypeStore in
     let w = c.args.walk.now in
-    let bases = w.context.globals.now.outline.now.parents.now in
+    let bases = (class_parents w.context.globals.now) in
     let k = standing_in S w c.args.env.now in
     let r = c.args.iterable.now in
     let callee = expr_of r.callee.now in

@@ -5,6 +5,7 @@ use Rattle.pc_types.specs.Shape.{members}
 use Rattle.pc_types.specs.WellFormed.{IsWellFormed}
 use Rattle.pc_rules.specs.Operations.{Label, offers_label, iterate_member}
 use Rattle.pc_rules.specs.Computed.Standing.{label_in}
+use Rattle.pc_rules.specs.Computed.ModuleParents.{class_parents}
 use Rattle.pc_module_rules.proofs.StoredTypes.{turns_well_formed}
 use Rattle.pc_walk.specs.declared.context.BodyContext.{BodyContext as RustBodyContext}
 use Rattle.pc_walk.specs.StatementsHeld.{GivesLabel}
@@ -16,7 +17,7 @@ pub returns-clause-labelled : goal.returns-clause-labelled
 returns-clause-labelled g c =
     let S = g.S.TypeStore in
     let mid = c.type_in.new.walk in
-    let bases = mid.context.globals.now.outline.now.parents.now in
+    let bases = (class_parents mid.context.globals.now) in
     let e = expr_of c.args.iterable.now in
     let store = c.item_label.new.store in
     let l = c.in_ok-item.item in
@@ -25,8 +26,8 @@ returns-clause-labelled g c =
     let item : Tree → Label = λ t. offers_label bases (map (iterate_member bases) (members t)) in
     subst (λ (m : Label). GivesLabel S.has S.tree bases store l m)
     (ap (λ (x : Label). item x.type) c.in_ok-label.ensures.labelled.label.is
-    ∙ ap (λ (x : RustBodyContext _). offers_label x.globals.now.outline.now.parents.now
-    (map (iterate_member x.globals.now.outline.now.parents.now)
+    ∙ ap (λ (x : RustBodyContext _). offers_label (class_parents x.globals.now)
+    (map (iterate_member (class_parents x.globals.now))
     (members (label_in (standing_in S c.args.walk.now c.args.env.now)
     None e).type))) c.type_in.ensures.goes_on.context)
     (record {

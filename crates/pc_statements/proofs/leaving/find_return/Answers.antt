@@ -9,6 +9,7 @@ use Rattle.pc_rules.specs.Computed.Expressions.{flows_of}
 use Rattle.pc_rules.specs.Computed.Findings.{flows_at}
 use Rattle.pc_rules.specs.Computed.Standing.{Standing, finds_in, label_in}
 use Rattle.pc_rules.specs.declared.label.Label.{Label as RustLabel}
+use Rattle.pc_rules.specs.Computed.ModuleParents.{class_parents}
 use Rattle.pc_module_rules.specs.Computed.Statements.{BodyContext, return_finds}
 use Rattle.pc_walk.specs.declared.context.BodyContext.{BodyContext as RustBodyContext}
 use Rattle.pc_walk.specs.Walks.{body_context_in, standing_in}
@@ -34,7 +35,7 @@ returns-in_ok-find_flow_in-in-None-clause-finds g c =
     let none = c.in_ok-none-in-None in
     let l : RustLabel _ = record { ty = none.none; codes = c.new.result } in
     let flow = c.in_ok-find_flow_in-in-None in
-    let found = flow_found S.tree w.context.globals.now.outline.now.parents.now c.args.first l (clean NoneType)
+    let found = flow_found S.tree (class_parents w.context.globals.now) c.args.first l (clean NoneType)
     w.context.returned.now flow.field-0
     (notes_of w.found.now) (notes_of c.find_flow_in.new.walk.found.now)
     (λ i. record { type = none.ensures.value.1 i; codes = c.new.ensures.items i }) flow.ensures.value
@@ -55,14 +56,14 @@ returns-in_ok-find_flow_in-in-Some-clause-finds g c =
     let want = Some (S.tree copied.field-0) in
     let m = label_in K want (expr_of c.deref.result.now) in
     let into = old.context.returned.now in
-    let bases = old.context.globals.now.outline.now.parents.now in
+    let bases = (class_parents old.context.globals.now) in
     let flow = c.in_ok-find_flow_in-in-Some in
     let flowed : BodyContext → Standing → List Note = λ f k. flows_at c.place.result
     (flows_of bases m (S.tree into ∷ [])) in
     let pushed = subst (λ (f : RustBodyContext _). notes_of c.find_flow_in-in-Some.new.walk.found.now
-    ≡ notes_of mid.found.now ++ flows_at c.place.result (flows_of f.globals.now.outline.now.parents.now m
+    ≡ notes_of mid.found.now ++ flows_at c.place.result (flows_of (class_parents f.globals.now) m
     (S.tree into ∷ [])))
-    c.type_in.ensures.goes_on.context (flow_found S.tree mid.context.globals.now.outline.now.parents.now c.place.result
+    c.type_in.ensures.goes_on.context (flow_found S.tree (class_parents mid.context.globals.now) c.place.result
     c.in_ok-label-in-Some.label m into flow.field-0
     (notes_of mid.found.now) (notes_of c.find_flow_in-in-Some.new.walk.found.now) typed.labelled.label.is
     flow.ensures.value

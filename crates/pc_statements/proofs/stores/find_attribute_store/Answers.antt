@@ -7,6 +7,7 @@ use Rattle.pc_flow.specs.WellFormed.{AreWellFormed}
 use Rattle.pc_notes.specs.Notes.{Note}
 use Rattle.pc_rules.specs.Operations.{Label, StoreOffer, stored_types}
 use Rattle.pc_rules.specs.Computed.Standing.{Standing, label_in, finds_in}
+use Rattle.pc_rules.specs.Computed.ModuleParents.{class_parents}
 use Rattle.pc_statements.specs.Storing.{HasStoreOffer, store_offer_with}
 use Rattle.pc_module_rules.specs.Computed.Statements.{BodyContext, stored_finds, attribute_stores}
 use Rattle.pc_module_rules.proofs.StoredTypes.{fields_stored}
@@ -28,9 +29,9 @@ pub find_stored-requires-clause-well_formed : goal.find_stored-requires-clause-w
 find_stored-requires-clause-well_formed g c =
     let tree = g.S.TypeStore.tree in
     let context = c.type_in.new.walk.context in
-    subst (λ (os : List StoreOffer). AreWellFormed context.globals.now.outline.now.parents.now (stored_types os))
+    subst (λ (os : List StoreOffer). AreWellFormed (class_parents context.globals.now) (stored_types os))
     (sym (ap (map (store_offer_with tree)) c.deref.ensures.value ∙ c.in_ok-offers.ensures.value))
-    (fields_stored context.globals.now.outline.now.parents.now (classes_with tree context.globals.now.classes.now)
+    (fields_stored (class_parents context.globals.now) (classes_with tree context.globals.now.classes.now)
     c.in_ok-label.ensures.finds.stands.context.context.classes c.as_str.result.now
     (tree c.in_ok-label.label.ty) c.in_ok-label.ensures.labelled.well_formed)
 

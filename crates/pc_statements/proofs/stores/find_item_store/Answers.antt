@@ -11,6 +11,7 @@ use Rattle.pc_rules.specs.Operations.{Label, StoreOffer, stored_types, store_ind
 use Rattle.pc_rules.specs.Computed.Findings.{flows_at}
 use Rattle.pc_rules.specs.Computed.Expressions.{flows_of}
 use Rattle.pc_rules.specs.Computed.Standing.{Standing, label_in, finds_in}
+use Rattle.pc_rules.specs.Computed.ModuleParents.{class_parents}
 use Rattle.pc_statements.specs.Storing.{HasStoreOffer, store_offer_with}
 use Rattle.pc_statements.proofs.Storing.{all_stores_kept}
 use Rattle.pc_module_rules.specs.Computed.Statements.{BodyContext, stored_finds, store_finds, index_stores}
@@ -47,13 +48,13 @@ pub find_stored-requires-clause-well_formed : goal.find_stored-requires-clause-w
 find_stored-requires-clause-well_formed g c =
     let tree = g.S.TypeStore.tree in
     let ty = tree c.in_ok-label.label.ty in
-    subst (λ (os : List StoreOffer). AreWellFormed c.find_flows_in.new.walk.context.globals.now.outline.now.parents.now
+    subst (λ (os : List StoreOffer). AreWellFormed (class_parents c.find_flows_in.new.walk.context.globals.now)
     (stored_types os))
     (sym (ap (map (store_offer_with tree)) c.deref-3.ensures.value ∙ c.in_ok-offers.ensures.value))
-    (subst (λ (f : RustBodyContext _). AreWellFormed f.globals.now.outline.now.parents.now
+    (subst (λ (f : RustBodyContext _). AreWellFormed (class_parents f.globals.now)
     (stored_types (index_stores (body_context_in g.S.TypeStore c.type_in.new.walk) ty)))
     (sym (c.find_flows_in.ensures.goes_on.context ∙ c.type_in-2.ensures.goes_on.context))
-    (items_stored c.type_in.new.walk.context.globals.now.outline.now.parents.now ty
+    (items_stored (class_parents c.type_in.new.walk.context.globals.now) ty
     c.in_ok-label.ensures.labelled.well_formed))
 
 -- the findings in a store to an item
@@ -95,7 +96,7 @@ returns-clause-finds g c =
     let offers = map (store_offer_with S.tree) c.deref-3.result.now in
     let types = map S.tree c.deref-2.result.now in
     let m = label_in (standing_in S first env) None i in
-    let flows = flows_at c.place.result (flows_of old.context.globals.now.outline.now.parents.now m types) in
+    let flows = flows_at c.place.result (flows_of (class_parents old.context.globals.now) m types) in
     let of_object : BodyContext → Standing → List Note = λ f k. finds_in k None o in
     let of_index : BodyContext → Standing → List Note = λ f k. finds_in k None i in
     let of_both : BodyContext → Standing → List Note = λ f k. finds_in k None o ++ finds_in k None i in
@@ -112,7 +113,7 @@ returns-clause-finds g c =
     let to_second = goes_further to_offered c.type_in-2.ensures.goes_on in
     let second_on : WalkKept S second flown = c.find_flows_in.ensures.goes_on in
     let flowing = subst (λ (f : RustBodyContext _). notes_of flown.found.now ≡ notes_of second.found.now
-    ++ flows_at c.place.result (flows_of f.globals.now.outline.now.parents.now m types)) to_second.context
+    ++ flows_at c.place.result (flows_of (class_parents f.globals.now) m types)) to_second.context
     (c.in_ok-find_flows_in.ensures.found m c.in_ok-at.ensures.labelled.label.is) in
     found_then S old flown c.find_stored.new.walk env env before stored _ (goes_further to_second second_on)
     c.find_stored.ensures.goes_on

@@ -13,6 +13,7 @@ use Rattle.pc_rules.specs.Operations.{StoreOffer, stored_types, store_codes, onl
 use Rattle.pc_rules.specs.Computed.Findings.{codes_at, own_at, flows_at}
 use Rattle.pc_rules.specs.Computed.Expressions.{flows_of}
 use Rattle.pc_rules.specs.Computed.Standing.{Standing, label_in, finds_in}
+use Rattle.pc_rules.specs.Computed.ModuleParents.{class_parents}
 use Rattle.pc_statements.specs.Storing.{store_offer_with}
 use Rattle.pc_module_rules.specs.Computed.Statements.{BodyContext, stored_finds}
 use Rattle.pc_walk.specs.declared.context.BodyContext.{BodyContext as RustBodyContext}
@@ -24,7 +25,7 @@ use Rattle.pc_statements.proofs.stores.find_stored.Goals as goal
 pub type_in-requires-clause-want : goal.type_in-requires-clause-want
 type_in-requires-clause-want g c =
     let tree = g.S.TypeStore.tree in
-    let bases = c.args.walk.now.context.globals.now.outline.now.parents.now in
+    let bases = (class_parents c.args.walk.now.context.globals.now) in
     want_holds (g.S.TypeStore.has c.args.walk.now.store.now) tree bases
     (map (store_offer_with tree) c.args.offers.now) (map tree c.deref-2.result.now) c.in_ok-want.want
     (subst (AreWellFormed bases) (sym (ap (map tree) c.deref-2.ensures.value ∙ c.in_ok-types.ensures.value))
@@ -71,11 +72,11 @@ returns-clause-finds g c =
     let typed : BodyContext → Standing → List Note = λ f k. finds_in k want e in
     let both : BodyContext → Standing → List Note = λ f k. codes_at place (store_codes offers) ++ finds_in k want e in
     let flowed : BodyContext → Standing → List Note = λ f k. flows_at c.place.result
-    (flows_of old.context.globals.now.outline.now.parents.now (label_in K want e) types) in
+    (flows_of (class_parents old.context.globals.now) (label_in K want e) types) in
     let codes = c.in_ok-find_codes.ensures ∙ ap (λ cs. notes_of old.found.now ++ flat_map (own_at place) cs)
     (c.deref.ensures.value ∙ c.in_ok-codes.ensures tree) in
     let flows = subst (λ (f : RustBodyContext _). notes_of c.find_flows_in.new.walk.found.now ≡ notes_of mid.found.now
-    ++ flows_at c.place.result (flows_of f.globals.now.outline.now.parents.now (label_in K want e) types))
+    ++ flows_at c.place.result (flows_of (class_parents f.globals.now) (label_in K want e) types))
     c.type_in.ensures.goes_on.context
     (c.in_ok-find_flows_in.ensures.found (label_in K want e) c.in_ok-label.ensures.labelled.label.is) in
     let told = record old { found = record old.found { now = c.find_codes.new.found } } in

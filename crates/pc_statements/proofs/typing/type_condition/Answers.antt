@@ -7,6 +7,7 @@ use Rattle.pc_flow.specs.Narrowing.{narrow}
 use Rattle.pc_flow.specs.Stored.{env_of}
 use Rattle.pc_notes.specs.Notes.{notes_of}
 use Rattle.pc_rules.specs.Computed.Standing.{finds_in}
+use Rattle.pc_rules.specs.Computed.ModuleParents.{class_parents}
 use Rattle.pc_walk.specs.StatementsHeld.{GivesTypes, context_in}
 use Rattle.pc_walk.specs.Walks.{Found}
 use Rattle.pc_walk.proofs.Held.{declared_is, declared_well_formed}
@@ -23,7 +24,7 @@ type_condition-requires g c =
       constants = h.context.constants;
       declared = h.declared.given;
       env = h.current.given;
-      declared_well_formed = declared_well_formed g.S.TypeStore.tree w.context.globals.now.outline.now.parents.now
+      declared_well_formed = declared_well_formed g.S.TypeStore.tree (class_parents w.context.globals.now)
           w.declared.now
           h.declared.well_formed;
       env_well_formed = h.current.well_formed;
@@ -36,10 +37,10 @@ returns-clause-where_true g c =
     let w = c.args.walk.now in
     let ways = c.in_ok-typed.ensures.ways in
     let f = w.context in
-    subst (λ (ds : List Tree). GivesTypes S.has tree f.globals.now.outline.now.parents.now
+    subst (λ (ds : List Tree). GivesTypes S.has tree (class_parents f.globals.now)
     c.type_condition.new.checker.store.now
     c.in_ok-typed.typed.ways.where_true
-    (narrow f.globals.now.outline.now.parents.now ds (meanings f.names.now) true (expr_of c.args.condition.now)
+    (narrow (class_parents f.globals.now) ds (meanings f.names.now) true (expr_of c.args.condition.now)
     (env_of tree c.args.env.now)))
     (declared_is tree w.declared.now) (record {
       holds = record { given = ways.given_true.env; well_formed = ways.given_true.env_well_formed };
@@ -53,10 +54,10 @@ returns-clause-where_false g c =
     let w = c.args.walk.now in
     let ways = c.in_ok-typed.ensures.ways in
     let f = w.context in
-    subst (λ (ds : List Tree). GivesTypes S.has tree f.globals.now.outline.now.parents.now
+    subst (λ (ds : List Tree). GivesTypes S.has tree (class_parents f.globals.now)
     c.type_condition.new.checker.store.now
     c.in_ok-typed.typed.ways.where_false
-    (narrow f.globals.now.outline.now.parents.now ds (meanings f.names.now) false (expr_of c.args.condition.now)
+    (narrow (class_parents f.globals.now) ds (meanings f.names.now) false (expr_of c.args.condition.now)
     (env_of tree c.args.env.now)))
     (declared_is tree w.declared.now) (record {
       holds = record { given = ways.given_false.env; well_formed = ways.given_false.env_well_formed };

@@ -5,6 +5,7 @@ use Rattle.pc_types.specs.Tree.{Tree}
 use Rattle.pc_flow.specs.Stored.{env_of}
 use Rattle.pc_notes.specs.Notes.{notes_of}
 use Rattle.pc_rules.specs.Computed.Standing.{MeansLabel, label_in, finds_in}
+use Rattle.pc_rules.specs.Computed.ModuleParents.{class_parents}
 use Rattle.pc_walk.specs.StatementsHeld.{context_in}
 use Rattle.pc_walk.specs.Walks.{Found, IsLabel, standing_in}
 use Rattle.pc_walk.proofs.Held.{declared_is, declared_well_formed, table_well_formed, gives_label, want_well_formed}
@@ -22,7 +23,7 @@ check_expr-requires-clause-given g c =
       constants = h.context.constants;
       declared = h.declared.given;
       env = h.current.given;
-      declared_well_formed = declared_well_formed g.S.TypeStore.tree w.context.globals.now.outline.now.parents.now
+      declared_well_formed = declared_well_formed g.S.TypeStore.tree (class_parents w.context.globals.now)
           w.declared.now
           h.declared.well_formed;
       env_well_formed = h.current.well_formed;
@@ -30,7 +31,7 @@ check_expr-requires-clause-given g c =
 
 pub check_expr-requires-clause-want : goal.check_expr-requires-clause-want
 check_expr-requires-clause-want g c = want_given _ g.S.TypeStore.tree
-    c.args.walk.now.context.globals.now.outline.now.parents.now c.args.want.now
+    (class_parents c.args.walk.now.context.globals.now) c.args.want.now
     c.requires.want
 
 pub returns-clause-labelled : goal.returns-clause-labelled
@@ -39,7 +40,7 @@ returns-clause-labelled g c =
     let tree = S.tree in
     let w = c.args.walk.now in
     let h = c.requires.stands in
-    let bases = w.context.globals.now.outline.now.parents.now in
+    let bases = (class_parents w.context.globals.now) in
     let k = standing_in S w c.args.env.now in
     let want = option_map tree c.args.want.now in
     let e = expr_of c.args.e.now in

@@ -11,7 +11,7 @@ use Rattle.pc_tree.proofs.Stops.{cons_at}
 use Rattle.pc_tree.specs.Names.{at_text, first_of, bound_as}
 use Rattle.pc_tree.specs.Code.{at_code}
 use Rattle.pc_stopping.specs.Holdings.{HasIn}
-use Rattle.pc_stopping.specs.Members.{Stands}
+use Rattle.pc_stopping.specs.Members.{HoldsTables}
 use Rattle.pc_tree.proofs.Finds.{stepped}
 use Rattle.pc_stopping.proofs.Clashes.{none_left}
 use Rattle.pc_stopping.proofs.ClashingItems.{base_has, stands_more, items_next, reverse_more}
@@ -52,7 +52,7 @@ loop-item-preserved c =
     ∙ ap (λ (x : List ℕ). first_of (at_text c.loop-item.bound n) (bound_as x t n)) (c.as_str.ensures.value
     ∙ ap (λ (m : Name). m.text) c.name.ensures) in
     record {
-      stands = subst (Stands c.find_in_item.new.holdings c.bind_first.new.map) (sym next)
+      stands = subst (HoldsTables c.find_in_item.new.holdings c.bind_first.new.map) (sym next)
           (stands_more c.loop-item.holdings c.find_in_item.new.holdings c.loop-item.bound c.bind_first.new.map before
           (item_of item) t inv.stands ens.keeps binds (ens.has before inv.stands));
       found =

@@ -6,6 +6,7 @@ use Rattle.pc_tree.specs.Tree.{name_of, ann_of, module_of}
 use Rattle.pc_types.specs.WellFormed.{IsWellFormed}
 use Rattle.pc_flow.specs.Stored.{env_of}
 use Rattle.pc_notes.specs.Notes.{Note, notes_of, plain_note}
+use Rattle.pc_rules.specs.Computed.ModuleParents.{class_parents}
 use Rattle.pc_module_rules.specs.Computed.Statements.{bound_name}
 use Rattle.pc_walk.specs.Walks.{body_context_in}
 use Rattle.pc_walk.proofs.Bound.{bound_unless, bound_finds, first_unless, first_finds}
@@ -34,7 +35,7 @@ returns-clause-typed g c =
     let tree = g.S.TypeStore.tree in
     let w = c.args.walk.now in
     let context = body_context_in g.S.TypeStore w in
-    let bases = w.context.globals.now.outline.now.parents.now in
+    let bases = (class_parents w.context.globals.now) in
     let bound = bound_name context (env_of tree w.declared.now) c.args.meaning in
     let read = read_ann_well_formed (module_of w.context.globals.now.outline.now.tree.now) bases
     c.requires.context.smaller
@@ -53,7 +54,7 @@ returns-clause-pushed g c =
     let bound = bound_name context (env_of tree w.declared.now) c.args.meaning in
     let before = notes_of w.found.now in
     let inside = ann_findings (module_of w.context.globals.now.outline.now.tree.now)
-    w.context.globals.now.outline.now.parents.now annotation in
+    (class_parents w.context.globals.now) annotation in
     let listed : c.deref.result.now ≡ inside =
     c.deref.ensures.value ∙ c.in_ok-ty.ensures.pushed ∙ ap (λ (l : List Finding). l ++ inside)
     c.new-in_it.ensures.items in

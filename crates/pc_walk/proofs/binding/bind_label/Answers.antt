@@ -5,6 +5,7 @@ use Rattle.pc_notes.specs.Notes.{notes_of}
 use Rattle.pc_walk.specs.declared.context.BodyContext.{BodyContext as RustBodyContext}
 use Rattle.pc_walk.specs.StatementsHeld.{HoldsContext, HoldsTypes}
 use Rattle.pc_types.specs.declared.store.TypeStore.{Ghosts as StoreOf}
+use Rattle.pc_rules.specs.Computed.ModuleParents.{class_parents}
 use Rattle.pc_walk.specs.declared.walk.Walk.{Walk}
 use Rattle.pc_walk.specs.Walks.{WalkKept, body_context_in}
 use Rattle.pc_walk.proofs.Bound.{flow_found, label_bound, or_well_formed}
@@ -15,11 +16,11 @@ use Rattle.pc_walk.proofs.binding.bind_label.Goals as goal
 -- types that the context of a walk holds, the context of a later one holds
 types_there : {Store Ty : Type 0} (S : StoreOf Store Ty) (old new : Walk Store Ty) (store : Store)
     {types : List (Option Ty)} → WalkKept S old new → HoldsTypes (S.has store) S.tree
-    old.context.globals.now.outline.now.parents.now types
-    → HoldsTypes (S.has store) S.tree new.context.globals.now.outline.now.parents.now types
+    (class_parents old.context.globals.now) types
+    → HoldsTypes (S.has store) S.tree (class_parents new.context.globals.now) types
 types_there S old new store {types = types} g h =
     in_body_context S old new (λ (f : RustBodyContext _). HoldsTypes (S.has store) S.tree
-    f.globals.now.outline.now.parents.now types) g h
+    (class_parents f.globals.now) types) g h
 
 pub returns-clause-bound : goal.returns-clause-bound
 returns-clause-bound g c = λ m e.
@@ -28,7 +29,7 @@ returns-clause-bound g c = λ m e.
     let tree = g.S.TypeStore.tree in
     let w = c.args.walk.now in
     let h = c.requires.stands in
-    let bases = w.context.globals.now.outline.now.parents.now in
+    let bases = (class_parents w.context.globals.now) in
     let new = c.find_flow_in.new.walk in
     let store = new.store.now in
     let goes = c.find_flow_in.ensures.goes_on in

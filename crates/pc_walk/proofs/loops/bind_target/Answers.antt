@@ -5,6 +5,7 @@ use Rattle.pc_types.specs.Tree.{Tree}
 use Rattle.pc_flow.specs.Stored.{env_of}
 use Rattle.pc_notes.specs.Notes.{notes_of}
 use Rattle.pc_rules.specs.Operations.{clean}
+use Rattle.pc_rules.specs.Computed.ModuleParents.{class_parents}
 use Rattle.pc_module_rules.specs.Computed.Statements.{bind_item, bind_label, bound_type}
 use Rattle.pc_walk.specs.Walks.{body_context_in}
 use Rattle.pc_walk.proofs.Bound.{known_holds, known_bound, item_elsewhere}
@@ -14,7 +15,7 @@ pub bind_label-requires-clause-want : goal.bind_label-requires-clause-want
 bind_label-requires-clause-want g c =
     let S = g.S.TypeStore in
     let w = c.args.walk.now in
-    known_holds S.has S.tree w.context.globals.now.outline.now.parents.now w.store.now w.declared.now c.in-Local.local
+    known_holds S.has S.tree (class_parents w.context.globals.now) w.store.now w.declared.now c.in-Local.local
     None
     c.in_ok-want-in-Local.want c.requires.stands.declared tt c.in_ok-want-in-Local.ensures
 

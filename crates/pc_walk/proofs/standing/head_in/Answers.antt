@@ -4,6 +4,7 @@ use Rattle.pc_flow.specs.Agreement.{is_among}
 use Rattle.pc_flow.specs.Environment.{loop_head}
 use Rattle.pc_flow.specs.Stored.{env_of, declared_of}
 use Rattle.pc_flow.proofs.Conditions.{heads_well_formed}
+use Rattle.pc_rules.specs.Computed.ModuleParents.{class_parents}
 use Rattle.pc_walk.specs.StatementsHeld.{GivesTypes}
 use Rattle.pc_walk.proofs.Held.{declared_is, declared_well_formed, gives_types}
 use Rattle.pc_walk.proofs.standing.head_in.Goals as goal
@@ -13,7 +14,7 @@ returns-clause-head g c =
     let has = g.S.TypeStore.has in
     let tree = g.S.TypeStore.tree in
     let w = c.args.walk.now in
-    let bases = w.context.globals.now.outline.now.parents.now in
+    let bases = (class_parents w.context.globals.now) in
     let declared = declared_of tree w.declared.now in
     let env = env_of tree c.args.env.now in
     let store = c.loop_head.new.store in

@@ -4,7 +4,7 @@ use Rattle.pc_tree.specs.Tree.{stmt_of_kind}
 use Rattle.pc_tree.specs.Stopping.{bound_by_stmt}
 use Rattle.pc_scope.specs.Internal.WalkViews.{name_seen}
 use Rattle.pc_flow.specs.Stored.{env_of}
-use Rattle.pc_module_rules.specs.Computed.Statements.{Table}
+use Rattle.pc_module_rules.specs.Computed.Statements.{DeclaredTypes}
 use Rattle.pc_walk.specs.Internal.BoundNames.{unreached_numbers}
 use Rattle.pc_walk.specs.Touched.{numbers_of}
 use Rattle.pc_walk.specs.Walks.{IsEnv, body_context_in}
@@ -25,5 +25,5 @@ returns-clause-declared g c = λ p.
     c.deref-2.ensures.value ∙ c.in_ok-locals.ensures
     ∙ ap (λ xs. numbers_of resolve (map name_seen xs)) c.deref.ensures.value ∙ ap (numbers_of resolve) seen in
     let table = env_of S.tree w.declared.now in
-    subst (λ (t : Table). IsEnv S new new.declared.now t)
+    subst (λ (t : DeclaredTypes). IsEnv S new new.declared.now t)
     (ap (unreached_numbers table) numbers ∙ unreached_by context table names) c.in_ok-declare_each.ensures.declared

@@ -2,7 +2,7 @@ use Rattle.std.proofs.Common.{◌<◌, ◌≤◌, ◌++◌, List, [], length, re
 use Rattle.std.proofs.lemmas.Option.{slice_get_read}
 use Rattle.pc_shared_maps.specs.SharedLists.{empty_list}
 use Rattle.pc_class.specs.FieldLists.{IsListOf}
-use Rattle.pc_class.specs.Parts.{part, entries_in, IsSpan}
+use Rattle.pc_class.specs.Parts.{items_in_span, classes_of_table, IsSpan}
 use Rattle.pc_class.specs.Tables.{inherited_entry}
 use Rattle.pc_class.proofs.ListsOfFields.{list_kept, inherited_list, class_lists, many_more, each_more}
 use Rattle.pc_class.proofs.TableFields.{fields_over}
@@ -18,7 +18,7 @@ add_fields-requires-clause-room g c =
     let test = c.loop-class-test.true in
     let less : class < length p.classes.items = omega arith in
     let is = slice_get_read p.classes.items (length p.classes.items) class n refl less c.index-node.ensures in
-    let inherited = inherited_list p.fields.items c.loop-class.lists (entries_in p) c.loop-class.classes.items class
+    let inherited = inherited_list p.fields.items c.loop-class.lists (classes_of_table p) c.loop-class.classes.items class
     v.none v.each n.base (c.requires.each class n is).before c.deref.result.now c.list_at-inherited.result
     c.deref.ensures.value c.list_at-inherited.ensures in
     inherited.room
@@ -42,7 +42,7 @@ loop-class-preserved g c =
     let v = c.loop-class.invariant in
     let s = c.loop-class.lists in
     let t = c.add_fields.new.lists in
-    let es = entries_in p in
+    let es = classes_of_table p in
     let class = c.loop-class.class in
     let classes = c.loop-class.classes.items in
     let list = c.in_ok-list.list in
@@ -59,7 +59,7 @@ loop-class-preserved g c =
     (subst (λ (fs : List _). IsListOf fs s these c.list_at-inherited.result) (sym all) inherited) in
     let here = subst (λ (ps : List _). IsListOf p.fields.items t ps list)
     (sym (fields_over p.named p.fields.items p.methods.items p.classes.items es c.requires class n is))
-    (subst (λ (fs : List _). IsListOf fs t (these ++ part fs n.fields) list) all added) in
+    (subst (λ (fs : List _). IsListOf fs t (these ++ items_in_span fs n.fields) list) all added) in
     record {
       many = many_more p.fields.items s es classes class v.none v.each t c.push.new.self.items list v.many
           c.in_ok-list.ensures.kept c.in_ok-push.ensures.items here;
@@ -75,6 +75,6 @@ returns g c =
     let long = c.len-class-end.ensures in
     let test = c.loop-class-test.false in
     let many = c.requires.many in
-    let all : length (entries_in p) ≤ c.loop-class.class = omega arith in
-    class_lists p.fields.items c.loop-class.lists (entries_in p) c.loop-class.classes.items c.loop-class.class v.none
+    let all : length (classes_of_table p) ≤ c.loop-class.class = omega arith in
+    class_lists p.fields.items c.loop-class.lists (classes_of_table p) c.loop-class.classes.items c.loop-class.class v.none
     v.each v.many all

@@ -1,7 +1,7 @@
 use Rattle.std.proofs.Common.{◌∙◌, List, sym, ap, subst, arith}
 use Rattle.std.specs.Prelude.{slice_get}
 use Rattle.pc_class.specs.Outlines.{IsMapOf}
-use Rattle.pc_class.specs.Parts.{parameter_name, entry_over, entries_in}
+use Rattle.pc_class.specs.Parts.{parameter_name, entry_over, classes_of_table}
 use Rattle.pc_class.specs.Tables.{ClassEntry}
 use Rattle.pc_class.proofs.TableReads.{node_there, field_read, field_listed}
 use Rattle.pc_class.proofs.table.ClassTable.field.Goals as goal
@@ -17,7 +17,7 @@ returns-clause-value g c tree =
     let p = c.self.inside.parts in
     let node = node_there p c.self.invariant.0 c.args.class c.index.result.now c.index.ensures
     (omega (arith, c.if-class-len.false, c.len.ensures)) in
-    let these = (entry_over p.fields.items p.methods.items (entries_in p) c.index.result.now).fields in
+    let these = (entry_over p.fields.items p.methods.items (classes_of_table p) c.index.result.now).fields in
     field_read tree c.args.self.now c.args.class _
     (ap (λ (es : List (ClassEntry _)). slice_get es c.args.class) (sym c.self.view_is) ∙ node.is) c.args.name.now
     c.member_named.result (c.member_named.ensures parameter_name these
@@ -29,7 +29,7 @@ returns-clause-listed g c =
     let p = c.self.inside.parts in
     let node = node_there p c.self.invariant.0 c.args.class c.index.result.now c.index.ensures
     (omega (arith, c.if-class-len.false, c.len.ensures)) in
-    let these = (entry_over p.fields.items p.methods.items (entries_in p) c.index.result.now).fields in
+    let these = (entry_over p.fields.items p.methods.items (classes_of_table p) c.index.result.now).fields in
     field_listed c.args.self.now c.args.class _
     (ap (λ (es : List (ClassEntry _)). slice_get es c.args.class) (sym c.self.view_is) ∙ node.is) c.args.name.now
     c.member_named.result (c.member_named.ensures parameter_name these

@@ -4,7 +4,7 @@ use Rattle.pc_shared_maps.specs.declared.lists.SharedList.{SharedList}
 use Rattle.pc_shared_maps.specs.SharedLists.{needed_at, HasRoom}
 use Rattle.pc_class.specs.FieldLists.{fields_in, list_in}
 use Rattle.pc_class.specs.Listed.{needed_in}
-use Rattle.pc_class.specs.Parts.{entries_in}
+use Rattle.pc_class.specs.Parts.{classes_of_table}
 use Rattle.pc_class.specs.Tables.{ClassEntry}
 use Rattle.pc_class.proofs.ListsOfFields.{needed_told}
 use Rattle.pc_class.proofs.table.ClassTable.fields_needed.Goals as goal
@@ -20,6 +20,6 @@ returns g c =
     (sym c.self.view_is) c.requires in
     c.needed.ensures
     ∙ ap (λ (l : SharedList). needed_at s.lists.lists l c.args.count) c.of.ensures
-    ∙ needed_told s.parts.fields.items (fields_in (entries_in s.parts) c.args.class) s.lists.lists
+    ∙ needed_told s.parts.fields.items (fields_in (classes_of_table s.parts) c.args.class) s.lists.lists
     (list_in s.lists c.args.class) (c.self.invariant.1.1 (Some c.args.class)) c.args.count within
     ∙ ap (λ (es : List (ClassEntry _)). needed_in (fields_in es c.args.class) c.args.count) c.self.view_is

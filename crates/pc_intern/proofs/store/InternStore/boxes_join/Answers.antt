@@ -1,7 +1,7 @@
 use Rattle.std.proofs.Common.{◌≡◌}
 use Rattle.pc_types.specs.Boxed.{tree_of}
 use Rattle.pc_types.specs.Join.{join}
-use Rattle.pc_intern.specs.Store.{meaning}
+use Rattle.pc_intern.specs.Store.{tree_of_type}
 use Rattle.pc_intern.proofs.Held.{held_within, means_now}
 use Rattle.pc_intern.proofs.Kept.{joined_as}
 use Rattle.pc_intern.proofs.store.InternStore.boxes_join.Goals as goal
@@ -14,10 +14,10 @@ ty-t-requires c = held_within c.self.inside.table c.args.self.now c.args.t.now c
 
 pub returns : goal.returns
 returns c =
-    let p : tree_of c.ty-s.result.now ≡ meaning c.args.s.now = means_now c.self.inside.table c.args.self.now
+    let p : tree_of c.ty-s.result.now ≡ tree_of_type c.args.s.now = means_now c.self.inside.table c.args.self.now
     c.args.s.now c.ty-s.result.now c.self.view_is c.requires.left c.ty-s.ensures.value in
-    let q : tree_of c.ty-t.result.now ≡ meaning c.args.t.now = means_now c.self.inside.table c.args.self.now
+    let q : tree_of c.ty-t.result.now ≡ tree_of_type c.args.t.now = means_now c.self.inside.table c.args.self.now
     c.args.t.now c.ty-t.result.now c.self.view_is c.requires.right c.ty-t.ensures.value in
     joined_as c.in_ok-join.field-0 (join c.args.parents.now (tree_of c.ty-s.result.now) (tree_of c.ty-t.result.now))
-    (join c.args.parents.now (meaning c.args.s.now) (meaning c.args.t.now))
+    (join c.args.parents.now (tree_of_type c.args.s.now) (tree_of_type c.args.t.now))
     (λ i. join c.args.parents.now (p i) (q i)) c.in_ok-join.ensures.value

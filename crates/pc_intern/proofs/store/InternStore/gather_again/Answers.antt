@@ -2,7 +2,7 @@ use Rattle.std.proofs.Common.{◌≡◌, ap, ◌∙◌, unwrap_or}
 use Rattle.pc_types.specs.Tree.{Object}
 use Rattle.pc_types.specs.Join.{join}
 use Rattle.pc_types.specs.Boxed.{tree_of}
-use Rattle.pc_intern.specs.Store.{meaning}
+use Rattle.pc_intern.specs.Store.{tree_of_type}
 use Rattle.pc_intern.proofs.AddingNothing.{none_among, noted}
 use Rattle.pc_intern.proofs.Held.{means_now}
 use Rattle.pc_intern.proofs.store.InternStore.gather_again.Goals as goal
@@ -10,7 +10,7 @@ use Rattle.pc_intern.proofs.store.InternStore.gather_again.Goals.{then-is_alike+
 
 pub returns-clause-value : goal.returns-clause-value
 returns-clause-value c =
-    let q : tree_of c.ty.result.now ≡ meaning c.args.ty.now = means_now c.self.inside.table c.args.self.now
+    let q : tree_of c.ty.result.now ≡ tree_of_type c.args.ty.now = means_now c.self.inside.table c.args.self.now
     c.args.ty.now c.ty.result.now c.self.view_is c.requires.ty c.ty.ensures.value in
     c.in_ok-joined.ensures.value
     ∙ ap (λ t. unwrap_or (join c.args.parents.now (tree_of c.args.gathered.joined) t) Object) q

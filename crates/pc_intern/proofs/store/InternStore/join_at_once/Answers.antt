@@ -1,6 +1,6 @@
 use Rattle.std.proofs.Common.{◌≡◌, Some, sym, ap, ◌∙◌}
 use Rattle.pc_types.specs.Join.{join}
-use Rattle.pc_intern.specs.Store.{meaning}
+use Rattle.pc_intern.specs.Store.{tree_of_type}
 use Rattle.pc_intern.proofs.AtOnce.{join_first}
 use Rattle.pc_intern.proofs.Held.{within, meant}
 use Rattle.pc_types.proofs.JoinItself.{join_itself}
@@ -10,9 +10,9 @@ use Rattle.pc_intern.proofs.store.InternStore.join_at_once.Goals as goal
 
 pub returns-then-is_same-clause-value : goal.returns-then-is_same-clause-value
 returns-then-is_same-clause-value c = λ bases.
-    let s = meaning c.args.s.now in
-    let t = meaning c.args.t.now in
-    let e : meaning c.held.result ≡ s = meant c.args.self.now c.held.result c.args.s.now.number s c.held.ensures.held
+    let s = tree_of_type c.args.s.now in
+    let t = tree_of_type c.args.t.now in
+    let e : tree_of_type c.held.result ≡ s = meant c.args.self.now c.held.result c.args.s.now.number s c.held.ensures.held
     c.held.ensures.number c.requires.left.at in
     let j : join bases s t ≡ Some s = elim c.then-is_same.branch [
       | then-is_same-via-then-is_same w ↦
@@ -23,4 +23,4 @@ returns-then-is_same-clause-value c = λ bases.
     j ∙ ap Some (sym e)
 
 pub held-requires-then-is_never-2 : goal.held-requires-then-is_never-2
-held-requires-then-is_never-2 c = within c.args.self.now c.args.t.now.number (meaning c.args.t.now) c.requires.right.at
+held-requires-then-is_never-2 c = within c.args.self.now c.args.t.now.number (tree_of_type c.args.t.now) c.requires.right.at

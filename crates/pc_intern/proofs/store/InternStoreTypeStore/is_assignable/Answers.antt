@@ -1,7 +1,7 @@
 use Rattle.std.proofs.Common.{◌≡◌, ◌∙◌}
 use Rattle.pc_types.specs.Boxed.{tree_of}
 use Rattle.pc_types.specs.Computed.{assignable_test}
-use Rattle.pc_intern.specs.Store.{meaning}
+use Rattle.pc_intern.specs.Store.{tree_of_type}
 use Rattle.pc_intern.proofs.Held.{held_within, means_now, assignable_told}
 use Rattle.pc_intern.proofs.store.InternStoreTypeStore.is_assignable.Goals as goal
 
@@ -21,17 +21,17 @@ ty-t-requires c = held_within c.self.inside.table c.args.self.now c.args.t.now (
 pub returns-clause-test : goal.returns-clause-test
 returns-clause-test c =
     let v = c.self.view_is ∙ c.answers.ensures.same in
-    let p : tree_of c.ty-s.result.now ≡ meaning c.args.s.now = means_now c.self.inside.table c.args.self.now
+    let p : tree_of c.ty-s.result.now ≡ tree_of_type c.args.s.now = means_now c.self.inside.table c.args.self.now
     c.args.s.now c.ty-s.result.now v c.requires.left c.ty-s.ensures.value in
-    let q : tree_of c.ty-t.result.now ≡ meaning c.args.t.now = means_now c.self.inside.table c.args.self.now
+    let q : tree_of c.ty-t.result.now ≡ tree_of_type c.args.t.now = means_now c.self.inside.table c.args.self.now
     c.args.t.now c.ty-t.result.now v c.requires.right c.ty-t.ensures.value in
     c.is_assignable.ensures.test ∙ (λ i. assignable_test c.args.parents.now (p i) (q i))
 
 pub returns-clause-value : goal.returns-clause-value
 returns-clause-value c =
     let v = c.self.view_is ∙ c.answers.ensures.same in
-    let p : tree_of c.ty-s.result.now ≡ meaning c.args.s.now = means_now c.self.inside.table c.args.self.now
+    let p : tree_of c.ty-s.result.now ≡ tree_of_type c.args.s.now = means_now c.self.inside.table c.args.self.now
     c.args.s.now c.ty-s.result.now v c.requires.left c.ty-s.ensures.value in
-    let q : tree_of c.ty-t.result.now ≡ meaning c.args.t.now = means_now c.self.inside.table c.args.self.now
+    let q : tree_of c.ty-t.result.now ≡ tree_of_type c.args.t.now = means_now c.self.inside.table c.args.self.now
     c.args.t.now c.ty-t.result.now v c.requires.right c.ty-t.ensures.value in
     rw (← p, ← q) c.is_assignable.ensures.value

@@ -6,8 +6,8 @@ use Rattle.pc_token.specs.declared.token.Operator.TheVariants as sign
 use Rattle.pc_tree.specs.Tree.{while_loop, for_loop, conditional, no_stmts, no_branches, name_of, stmts_of_list}
 use Rattle.pc_tree.specs.Depth.{whole_expr, wholes_of_stmts}
 use Rattle.pc_tree.specs.Lists.{branches_of_list}
-use Rattle.pc_grammar.specs.Grammar.{name_at}
-use Rattle.pc_grammar.specs.Machine.{at, turn}
+use Rattle.pc_grammar.specs.Grammar.{name_of_token}
+use Rattle.pc_grammar.specs.Machine.{at, transition}
 use Rattle.pc_grammar.specs.Machine.Kinds.{same_kind}
 use Rattle.pc_grammar.specs.Machine.States.{whole, in_statement, looping, iterating, branching, while_body, for_body}
 use Rattle.pc_grammar.specs.Machine.States.{branch_body, else_body, fixed, stmts, target_due, after_branch, operand}
@@ -77,7 +77,7 @@ suite-returns-then-sees g t c = let v = c.loop-stmts.invariant in let s = c.in_o
       later = let l = v.later in let m = s.later in let n = u.later in omega arith;
       leads = λ b o z. v.leads b o (s.leads v.statements b v.stands o
           (step_to (stmts (add_stmt v.statements s.statement) b) (after_suite b (add_stmt v.statements s.statement)) u
-          (ap (turn (stmts (add_stmt v.statements s.statement) b) _)
+          (ap (transition (stmts (add_stmt v.statements s.statement) b) _)
           (kind_seen kind.Dedent (sym c.sees.ensures ∙ c.if-sees.true) u.here) ∙ suite_ends v.statements s.statement b)
           o z));
     }
@@ -182,7 +182,7 @@ for_loop-returns-in_err-target g t c = let u = c.in_ok-first.ensures in let p = 
     (ap (lead_turn (site_at p d b) _ _) (f _ u.here)) o
     (w (target_due (site_at p d b))
     (needs (λ x. fixed (a_kind (kind.Keyword word.In)) []
-    (operand (whole (in_statement (iterating (name_at x)) (site_at p d b))))) refl (λ x k. refl))))
+    (operand (whole (in_statement (iterating (name_of_token x)) (site_at p d b))))) refl (λ x k. refl))))
     c.in_err-target.ensures)
 
 pub for_loop-returns-in_err-expect : goal.for_loop-returns-in_err-expect

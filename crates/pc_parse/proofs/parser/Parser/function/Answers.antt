@@ -1,6 +1,6 @@
 use Rattle.std.proofs.Common.{refl}
 use Rattle.std.proofs.lemmas.Result.{err_from_is_err_and}
-use Rattle.pc_grammar.specs.Grammar.{name_at}
+use Rattle.pc_grammar.specs.Grammar.{name_of_token}
 use Rattle.pc_grammar.specs.Machine.States.{def_due}
 use Rattle.pc_grammar.specs.Machine.Lines.{params_of}
 use Rattle.pc_reader.proofs.Steps.{needs}
@@ -11,7 +11,7 @@ use Rattle.pc_parse.proofs.parser.Parser.function.Goals as goal
 pub returns-in_err-name : goal.returns-in_err-name
 returns-in_err-name g c = let p = err_from_is_err_and c.from_residual.result c.from_residual.ensures.1 in
     rw (p.1, p.2) (blame (λ o w. λ owner first m. w (def_due owner first)
-    (needs (λ t. params_of owner (record { owner = owner; first = first; name = name_at t })) refl (λ t k. refl)))
+    (needs (λ t. params_of owner (record { owner = owner; first = first; name = name_of_token t })) refl (λ t k. refl)))
     c.in_err-name.ensures)
 
 pub returns-in_err-params : goal.returns-in_err-params

@@ -10,8 +10,8 @@ use Rattle.pc_grammar.specs.Machine.Finishing.{add_stmt}
 use Rattle.pc_grammar.specs.Machine.Lines.{line_ends}
 use Rattle.pc_reader.proofs.Streams.{blame}
 use Rattle.pc_reader.proofs.Steps.{step_to}
-use Rattle.pc_parse.specs.declared.statement.Word.{Word}
-use Rattle.pc_parse.specs.declared.statement.Word.TheVariants as alone
+use Rattle.pc_parse.specs.declared.statement.OneWordStatement.{OneWordStatement}
+use Rattle.pc_parse.specs.declared.statement.OneWordStatement.TheVariants as alone
 use Rattle.pc_parse.specs.Internal.WholeTrees.{deep_after}
 use Rattle.pc_parse.specs.Internal.Suites.{site_at, kind_of_word}
 use Rattle.pc_parse.proofs.Lines.{line_ended}
@@ -19,7 +19,7 @@ use Rattle.pc_parse.proofs.Depths.{noted_nothing}
 use Rattle.pc_parse.proofs.parser.Parser.word.Goals as goal
 
 -- a statement of one word has no expression
-no_whole : (w : Word) (first : Place) → wholes_of_stmt (stmt_of_kind first (kind_of_word w)) ≡ []
+no_whole : (w : OneWordStatement) (first : Place) → wholes_of_stmt (stmt_of_kind first (kind_of_word w)) ≡ []
 no_whole alone.Pass first = refl
 no_whole alone.Break first = refl
 no_whole alone.Continue first = refl

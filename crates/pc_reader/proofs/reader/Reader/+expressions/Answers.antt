@@ -5,13 +5,13 @@ use Rattle.pc_token.specs.declared.token.Keyword.TheVariants as word
 use Rattle.pc_token.specs.declared.token.Operator.TheVariants as sign
 use Rattle.pc_tree.specs.Tree.{tuple, no_exprs, more_exprs, no_entries, no_keywords, name_of}
 use Rattle.pc_grammar.specs.Grammar.{first_place}
-use Rattle.pc_grammar.specs.Machine.{at, turn}
+use Rattle.pc_grammar.specs.Machine.{at, transition}
 use Rattle.pc_grammar.specs.Machine.States.{minus, denial, in_tuple, in_list, in_call, joining, applying, grouping}
 use Rattle.pc_grammar.specs.Machine.States.{listing, indexing, naming, keying, valuing, operand, have, dotted}
 use Rattle.pc_grammar.specs.Machine.States.{group_due}
 use Rattle.pc_grammar.specs.Machine.States.{item_due, keyword_due, keyword_named, key_due}
 use Rattle.pc_grammar.specs.Machine.Finishing.{add_keyword}
-use Rattle.pc_grammar.specs.Machine.Expressions.{part, joined, grouped, call_part}
+use Rattle.pc_grammar.specs.Machine.Expressions.{bare_part, joined, grouped, call_part}
 use Rattle.pc_reader.specs.Internal.Operands.{infix_of, signs_on, applied_all}
 use Rattle.pc_reader.specs.Reading.{lexeme, Came}
 use Rattle.pc_reader.specs.Internal.Expressions.{NextIs, Over, Undotted}
@@ -44,7 +44,7 @@ atom-returns-in_err-items-clause-reads g t c = let p = err_from_is_err_and c.fro
     rw (p.1, p.2)
     (blame (λ o w. λ s r. step_to (operand s) (item_due in_list no_exprs
     ((lexeme g.X.AsStr.text c.in_ok-open.open) ∷ []) s) c.in_ok-open.ensures
-    (ap (turn (operand s) (lexeme g.X.AsStr.text c.in_ok-open.open))
+    (ap (transition (operand s) (lexeme g.X.AsStr.text c.in_ok-open.open))
     (kind_seen (kind.Operator sign.LeftBracket) (sym c.sees-2.ensures ∙ c.if-sees-2.true)
     c.in_ok-open.ensures.here)) o (w in_list no_exprs ((lexeme g.X.AsStr.text c.in_ok-open.open) ∷ []) s refl))
     c.in_err-items.ensures)
@@ -57,7 +57,7 @@ atom-returns-then-sees-2-clause-reads g t c = let n = c.in_ok-items.ensures in
     (starts_one (lexeme g.X.AsStr.text c.in_ok-open.open) [])
     (λ u e. same_place c.in_ok-open.ensures.here e) (λ s r. step_to (operand s)
     (item_due in_list no_exprs ((lexeme g.X.AsStr.text c.in_ok-open.open) ∷ []) s) c.in_ok-open.ensures
-    (ap (turn (operand s) (lexeme g.X.AsStr.text c.in_ok-open.open))
+    (ap (transition (operand s) (lexeme g.X.AsStr.text c.in_ok-open.open))
     (kind_seen (kind.Operator sign.LeftBracket) (sym c.sees-2.ensures ∙ c.if-sees-2.true)
     c.in_ok-open.ensures.here))) c.list.ensures.0 c.list.ensures.1 n.ready
     (omega (arith, c.in_ok-open.ensures.later, n.later))
@@ -152,7 +152,7 @@ call-returns-then-sees-2 g t c = let m = c.in_ok-keywords.ensures in on_result c
           c.in_ok-item.ensures.reads in let n = m.names p.tree v.items
           (((p.tokens ++ (k ∷ [])) ++ v.more)
           ++ (q.part.tokens ++ ((lexeme g.X.AsStr.text c.in_ok-take.field-0) ∷ []))) in record {
-            part = call_part p.tree v.items n.arguments
+            bare_part = call_part p.tree v.items n.arguments
                 ((((p.tokens ++ (k ∷ [])) ++ v.more)
                 ++ (q.part.tokens ++ ((lexeme g.X.AsStr.text c.in_ok-take.field-0) ∷ []))) ++ n.more);
             keeps = j.1 p v.items n.arguments kp (v.keeps tt) n.keeps _
@@ -247,7 +247,7 @@ dict-loop-self-init g t c = let k = c.in_ok-open.ensures in record {
     begins = λ u e. same_place k.here e;
     keeps = c.new-entries.ensures;
     leads = λ s r. step_to (operand s) (key_due no_entries ((lexeme g.X.AsStr.text c.in_ok-open.open) ∷ []) s) k
-        (ap (turn (operand s) (lexeme g.X.AsStr.text c.in_ok-open.open))
+        (ap (transition (operand s) (lexeme g.X.AsStr.text c.in_ok-open.open))
         (kind_seen (kind.Operator sign.LeftBrace) r k.here));
   };
 }
@@ -376,13 +376,13 @@ group-returns-in_err-close-clause-reads g t c = let p = err_from_is_err_and c.fr
     c.from_residual-in_err-close.ensures.1 in
     rw (p.1, p.2)
     (blame (λ o w. λ s r. step_to (operand s) (group_due ((lexeme g.X.AsStr.text c.in_ok-open.open) ∷ []) s)
-    c.in_ok-open.ensures (ap (turn (operand s) (lexeme g.X.AsStr.text c.in_ok-open.open))
+    c.in_ok-open.ensures (ap (transition (operand s) (lexeme g.X.AsStr.text c.in_ok-open.open))
     (kind_seen (kind.Operator sign.LeftParenthesis) r c.in_ok-open.ensures.here)) o
     (w (at (group_due ((lexeme g.X.AsStr.text c.in_ok-open.open) ∷ []) s)) (λ _. refl))) c.in_err-close.ensures)
 
 pub group-returns-then-sees-clause-reads : goal.group-returns-then-sees-clause-reads
 group-returns-then-sees-clause-reads g t c = let k = c.in_ok-close.ensures in record {
-  part = (part (λ p. tuple p no_exprs) ((lexeme g.X.AsStr.text c.in_ok-open.open)
+  bare_part = (bare_part (λ p. tuple p no_exprs) ((lexeme g.X.AsStr.text c.in_ok-open.open)
       ∷ (lexeme g.X.AsStr.text c.in_ok-close.close) ∷ []));
   keeps = c.tuple.ensures.1 no_exprs c.new.ensures _ (starts_one (lexeme g.X.AsStr.text c.in_ok-open.open) _)
       (ends_more ((lexeme g.X.AsStr.text c.in_ok-open.open) ∷ [])
@@ -392,17 +392,17 @@ group-returns-then-sees-clause-reads g t c = let k = c.in_ok-close.ensures in re
   later = omega (arith, c.in_ok-open.ensures.later, k.later);
   begins = λ u e. same_place c.in_ok-open.ensures.here e;
   leads = λ s r o x. step_to (operand s) (group_due ((lexeme g.X.AsStr.text c.in_ok-open.open) ∷ []) s)
-      c.in_ok-open.ensures (ap (turn (operand s) (lexeme g.X.AsStr.text c.in_ok-open.open))
+      c.in_ok-open.ensures (ap (transition (operand s) (lexeme g.X.AsStr.text c.in_ok-open.open))
       (kind_seen (kind.Operator sign.LeftParenthesis) r c.in_ok-open.ensures.here)) o
       (step_to (group_due ((lexeme g.X.AsStr.text c.in_ok-open.open) ∷ []) s)
-      (have 7 (part (λ p. tuple p no_exprs) ((lexeme g.X.AsStr.text c.in_ok-open.open)
+      (have 7 (bare_part (λ p. tuple p no_exprs) ((lexeme g.X.AsStr.text c.in_ok-open.open)
       ∷ (lexeme g.X.AsStr.text c.in_ok-close.close) ∷ [])) s) k
-      (ap (turn (group_due ((lexeme g.X.AsStr.text c.in_ok-open.open) ∷ []) s)
+      (ap (transition (group_due ((lexeme g.X.AsStr.text c.in_ok-open.open) ∷ []) s)
       (lexeme g.X.AsStr.text c.in_ok-close.close)) (kind_seen (kind.Operator sign.RightParenthesis)
       (sym c.sees.ensures ∙ c.if-sees.true) c.in_ok-close.ensures.here)) o
       (subst (λ z. Came g.X.AsStr.text g.I.Iterator.next_gives c.take-then-sees.new.self
       (at
-      (have z (part (λ p. tuple p no_exprs) ((lexeme g.X.AsStr.text c.in_ok-open.open)
+      (have z (bare_part (λ p. tuple p no_exprs) ((lexeme g.X.AsStr.text c.in_ok-open.open)
       ∷ (lexeme g.X.AsStr.text c.in_ok-close.close) ∷ [])) s)) o) c.tuple.ensures.0 x));
 }
 
@@ -411,7 +411,7 @@ group-returns-in_err-first-clause-reads g t c = let p = err_from_is_err_and c.fr
     c.from_residual-in_err-first.ensures.1 in
     rw (p.1, p.2)
     (blame (λ o w. λ s r. step_to (operand s) (group_due ((lexeme g.X.AsStr.text c.in_ok-open.open) ∷ []) s)
-    c.in_ok-open.ensures (ap (turn (operand s) (lexeme g.X.AsStr.text c.in_ok-open.open))
+    c.in_ok-open.ensures (ap (transition (operand s) (lexeme g.X.AsStr.text c.in_ok-open.open))
     (kind_seen (kind.Operator sign.LeftParenthesis) r c.in_ok-open.ensures.here)) o
     (group_begins g.X.AsStr.text g.I.Iterator.next_gives c.take.new.self
     ((lexeme g.X.AsStr.text c.in_ok-open.open) ∷ []) s (sym c.sees.ensures ∙ c.if-sees.false) o
@@ -422,7 +422,7 @@ group-returns-in_err-close-2-clause-reads g t c = let p = err_from_is_err_and c.
     c.from_residual-in_err-close-2.ensures.1 in
     rw (p.1, p.2) (blame (λ o w. λ s r. let q = c.in_ok-first.ensures.reads in
     step_to (operand s) (group_due ((lexeme g.X.AsStr.text c.in_ok-open.open) ∷ []) s) c.in_ok-open.ensures
-    (ap (turn (operand s) (lexeme g.X.AsStr.text c.in_ok-open.open))
+    (ap (transition (operand s) (lexeme g.X.AsStr.text c.in_ok-open.open))
     (kind_seen (kind.Operator sign.LeftParenthesis) r c.in_ok-open.ensures.here)) o
     (group_begins g.X.AsStr.text g.I.Iterator.next_gives c.take.new.self
     ((lexeme g.X.AsStr.text c.in_ok-open.open) ∷ []) s (sym c.sees.ensures ∙ c.if-sees.false) o
@@ -433,7 +433,7 @@ group-returns-in_err-close-2-clause-reads g t c = let p = err_from_is_err_and c.
 pub group-returns-then-sees-2-clause-reads : goal.group-returns-then-sees-2-clause-reads
 group-returns-then-sees-2-clause-reads g t c = let q = c.in_ok-first.ensures.reads in let k = c.in_ok-close-2.ensures in
     rw c.grouped.ensures (record {
-      part = grouped ((lexeme g.X.AsStr.text c.in_ok-open.open) ∷ []) q.part
+      bare_part = grouped ((lexeme g.X.AsStr.text c.in_ok-open.open) ∷ []) q.part
           (lexeme g.X.AsStr.text c.in_ok-close-2.close);
       keeps = keeps_grouped c.in_ok-first.first q.part (lexeme g.X.AsStr.text c.in_ok-open.open)
           (lexeme g.X.AsStr.text c.in_ok-close-2.close) q.keeps;
@@ -442,7 +442,7 @@ group-returns-then-sees-2-clause-reads g t c = let q = c.in_ok-first.ensures.rea
       later = omega (arith, c.in_ok-open.ensures.later, q.later, k.later);
       begins = λ u e. same_place c.in_ok-open.ensures.here e;
       leads = λ s r o x. step_to (operand s) (group_due ((lexeme g.X.AsStr.text c.in_ok-open.open) ∷ []) s)
-          c.in_ok-open.ensures (ap (turn (operand s) (lexeme g.X.AsStr.text c.in_ok-open.open))
+          c.in_ok-open.ensures (ap (transition (operand s) (lexeme g.X.AsStr.text c.in_ok-open.open))
           (kind_seen (kind.Operator sign.LeftParenthesis) r c.in_ok-open.ensures.here)) o
           (group_begins g.X.AsStr.text g.I.Iterator.next_gives c.take.new.self
           ((lexeme g.X.AsStr.text c.in_ok-open.open) ∷ []) s (sym c.sees.ensures ∙ c.if-sees.false) o
@@ -450,7 +450,7 @@ group-returns-then-sees-2-clause-reads g t c = let q = c.in_ok-first.ensures.rea
           (step_to (have c.in_ok-first.first.level q.part (grouping ((lexeme g.X.AsStr.text c.in_ok-open.open) ∷ []) s))
           (have 7 (grouped ((lexeme g.X.AsStr.text c.in_ok-open.open) ∷ []) q.part
           (lexeme g.X.AsStr.text c.in_ok-close-2.close)) s) k
-          (ap (turn (have c.in_ok-first.first.level q.part
+          (ap (transition (have c.in_ok-first.first.level q.part
           (grouping ((lexeme g.X.AsStr.text c.in_ok-open.open) ∷ []) s))
           (lexeme g.X.AsStr.text c.in_ok-close-2.close)) (kind_seen (kind.Operator sign.RightParenthesis)
           (sym c.sees-2.ensures ∙ c.if-sees-2.true) c.in_ok-close-2.ensures.here)) o x)));
@@ -461,7 +461,7 @@ group-returns-in_err-expect-clause-reads g t c = let p = err_from_is_err_and c.f
     c.from_residual-in_err-expect.ensures.1 in
     rw (p.1, p.2) (blame (λ o w. λ s r. let q = c.in_ok-first.ensures.reads in
     step_to (operand s) (group_due ((lexeme g.X.AsStr.text c.in_ok-open.open) ∷ []) s) c.in_ok-open.ensures
-    (ap (turn (operand s) (lexeme g.X.AsStr.text c.in_ok-open.open))
+    (ap (transition (operand s) (lexeme g.X.AsStr.text c.in_ok-open.open))
     (kind_seen (kind.Operator sign.LeftParenthesis) r c.in_ok-open.ensures.here)) o
     (group_begins g.X.AsStr.text g.I.Iterator.next_gives c.take.new.self
     ((lexeme g.X.AsStr.text c.in_ok-open.open) ∷ []) s (sym c.sees.ensures ∙ c.if-sees.false) o
@@ -479,7 +479,7 @@ group-returns-in_err-items-clause-reads g t c = let p = err_from_is_err_and c.fr
     c.from_residual-in_err-items.ensures.1 in
     rw (p.1, p.2) (blame (λ o w. λ s r. let q = c.in_ok-first.ensures.reads in
     step_to (operand s) (group_due ((lexeme g.X.AsStr.text c.in_ok-open.open) ∷ []) s) c.in_ok-open.ensures
-    (ap (turn (operand s) (lexeme g.X.AsStr.text c.in_ok-open.open))
+    (ap (transition (operand s) (lexeme g.X.AsStr.text c.in_ok-open.open))
     (kind_seen (kind.Operator sign.LeftParenthesis) r c.in_ok-open.ensures.here)) o
     (group_begins g.X.AsStr.text g.I.Iterator.next_gives c.take.new.self
     ((lexeme g.X.AsStr.text c.in_ok-open.open) ∷ []) s (sym c.sees.ensures ∙ c.if-sees.false) o
@@ -487,7 +487,7 @@ group-returns-in_err-items-clause-reads g t c = let p = err_from_is_err_and c.fr
     (step_to (have c.in_ok-first.first.level q.part (grouping ((lexeme g.X.AsStr.text c.in_ok-open.open) ∷ []) s))
     (item_due in_tuple (more_exprs q.part.tree no_exprs) ((lexeme g.X.AsStr.text c.in_ok-open.open)
     ∷ (q.part.tokens ++ ((lexeme g.X.AsStr.text c.in_ok-expect.field-0) ∷ []))) s) c.in_ok-expect.ensures.taken
-    (ap (turn (have c.in_ok-first.first.level q.part (grouping ((lexeme g.X.AsStr.text c.in_ok-open.open) ∷ []) s))
+    (ap (transition (have c.in_ok-first.first.level q.part (grouping ((lexeme g.X.AsStr.text c.in_ok-open.open) ∷ []) s))
     (lexeme g.X.AsStr.text c.in_ok-expect.field-0)) c.in_ok-expect.ensures.kind) o
     (w in_tuple (more_exprs q.part.tree no_exprs) ((lexeme g.X.AsStr.text c.in_ok-open.open)
     ∷ (q.part.tokens ++ ((lexeme g.X.AsStr.text c.in_ok-expect.field-0) ∷ []))) s refl))))) c.in_err-items.ensures)
@@ -503,7 +503,7 @@ group-returns-clause-reads g t c = let q = c.in_ok-first.ensures.reads in let n 
     (starts_one (lexeme g.X.AsStr.text c.in_ok-open.open) _)
     (λ u e. same_place c.in_ok-open.ensures.here e) (λ s r o x. step_to (operand s)
     (group_due ((lexeme g.X.AsStr.text c.in_ok-open.open) ∷ []) s) c.in_ok-open.ensures
-    (ap (turn (operand s) (lexeme g.X.AsStr.text c.in_ok-open.open))
+    (ap (transition (operand s) (lexeme g.X.AsStr.text c.in_ok-open.open))
     (kind_seen (kind.Operator sign.LeftParenthesis) r c.in_ok-open.ensures.here)) o
     (group_begins g.X.AsStr.text g.I.Iterator.next_gives c.take.new.self
     ((lexeme g.X.AsStr.text c.in_ok-open.open) ∷ []) s (sym c.sees.ensures ∙ c.if-sees.false) o
@@ -511,7 +511,7 @@ group-returns-clause-reads g t c = let q = c.in_ok-first.ensures.reads in let n 
     (step_to (have c.in_ok-first.first.level q.part (grouping ((lexeme g.X.AsStr.text c.in_ok-open.open) ∷ []) s))
     (item_due in_tuple (more_exprs q.part.tree no_exprs) ((lexeme g.X.AsStr.text c.in_ok-open.open)
     ∷ (q.part.tokens ++ ((lexeme g.X.AsStr.text c.in_ok-expect.field-0) ∷ []))) s) c.in_ok-expect.ensures.taken
-    (ap (turn (have c.in_ok-first.first.level q.part (grouping ((lexeme g.X.AsStr.text c.in_ok-open.open) ∷ []) s))
+    (ap (transition (have c.in_ok-first.first.level q.part (grouping ((lexeme g.X.AsStr.text c.in_ok-open.open) ∷ []) s))
     (lexeme g.X.AsStr.text c.in_ok-expect.field-0)) c.in_ok-expect.ensures.kind) o (x))))) c.tuple-2.ensures.0
     c.tuple-2.ensures.1 n.ready (omega (
       arith,
@@ -764,7 +764,7 @@ operators-loop-link-preserved-in-Some-2 g t c = let i = rw c.in-Some-2.is at c.i
     c.loop-link.invariant.gives in let h = c.in-Some.ensures in let q = c.in_ok-right.ensures.reads in let j =
     c.in_ok-left-2.ensures in record {
       gives = record {
-        part = joined (infix_of c.in-Some-2.infix) v.part i.tokens q.part;
+        bare_part = joined (infix_of c.in-Some-2.infix) v.part i.tokens q.part;
         keeps = j.1 v.part q.part v.keeps q.keeps _ (starts_more _ v.keeps.starts)
             (ends_more v.part.tokens (ends_more i.tokens q.keeps.ends));
         low = omega (arith, j.0, i.own, h.binds);
@@ -797,7 +797,7 @@ operators-loop-link-preserved g t c = let i = rw c.in_default-2.is at c.in_ok-in
     c.loop-link.invariant.gives in let h = c.in-Some.ensures in let n = c.in_ok-left-3.ensures in let k =
     n.goes i.token v.part v.keeps in record {
       gives = record {
-        part = k.part;
+        bare_part = k.part;
         keeps = k.keeps;
         low = omega (arith, n.level_is, i.own, h.binds);
         ready = n.ready;
@@ -971,7 +971,7 @@ pub signed-returns-then-sees-clause-reads : goal.signed-returns-then-sees-clause
 signed-returns-then-sees-clause-reads g t c = let q = c.in_ok-operand.ensures.reads in let n =
     (c.in_ok-inner.ensures c.in_ok-signs.ensures.reads.tokens q.part c.in_ok-signs.ensures.reads.starts q.keeps).0 in
     on_result c.wrap.result _ _ _ (λ o j. record {
-      part = (applied_all denial ((lexeme g.X.AsStr.text c.in_ok-first.first) ∷ c.in_ok-signs.ensures.reads.tokens)
+      bare_part = (applied_all denial ((lexeme g.X.AsStr.text c.in_ok-first.first) ∷ c.in_ok-signs.ensures.reads.tokens)
           c.in_ok-operand.ensures.reads.part);
       keeps = j.1 (applied_all denial c.in_ok-signs.ensures.reads.tokens q.part) n _
           (starts_one (lexeme g.X.AsStr.text c.in_ok-first.first) (applied_all denial c.in_ok-signs.ensures.reads.tokens
@@ -1021,7 +1021,7 @@ pub signed-returns-clause-reads : goal.signed-returns-clause-reads
 signed-returns-clause-reads g t c = let v = c.in_ok-signs-2.ensures.reads in let q =
     c.in_ok-operand-2.ensures.reads in on_result c.wrap_all-2.result _ _ _
     (λ o j. let n = j v.tokens q.part v.starts q.keeps in record {
-      part = applied_all minus v.tokens q.part;
+      bare_part = applied_all minus v.tokens q.part;
       keeps = n.0;
       low = subst (λ z. c.args.level ≤ z) (sym n.1) (minus_high v.tokens c.args.level c.in_ok-operand-2.operand.level
           c.requires.level (omega (arith, q.low)));

@@ -1,10 +1,10 @@
 use Rattle.std.proofs.Common.{◌≡◌, ◌≤◌, ◌<◌, ◌+◌, ◌*◌, ◌-◌, List}
 use Rattle.pc_token.specs.Lexeme.{Lexeme}
 use Rattle.pc_tree.specs.Tree.{Exprs, no_exprs, Expr, name_of}
-use Rattle.pc_grammar.specs.Machine.States.{Head, in_call}
-use Rattle.pc_grammar.specs.Machine.Expressions.{rank}
+use Rattle.pc_grammar.specs.Machine.States.{BracketPurpose, in_call}
+use Rattle.pc_grammar.specs.Machine.Expressions.{needed_level}
 use Rattle.pc_reader.specs.Internal.Brackets.{KeepsItems}
-use Rattle.pc_reader.specs.Internal.Expressions.{Gives, NextIs, Undotted, IsPrimary, Closes}
+use Rattle.pc_reader.specs.Internal.Expressions.{GivesOperand, NextIs, Undotted, IsPrimary, Closes}
 use Rattle.pc_reader.specs.Reading.{IsReady, left_in}
 use Rattle.pc_reader.proofs.BracketLoops.{ElementsSoFar, EntriesSoFar, NamesSoFar}
 use Rattle.pc_reader.proofs.reader.Reader.+expressions.Given as goal
@@ -41,8 +41,8 @@ decreases-keywords g l = 30 * left_in g.I.Iterator.remaining l.self.now + 27
 
 abbrev pub invariant-operators-loop-link : goal.invariant-operators-loop-link
 invariant-operators-loop-link g l = record {
-  gives : Gives g.X.AsStr.text g.I.Iterator.next_gives g.I.Iterator.can_next g.I.Iterator.remaining
-      (λ s. rank s ≡ l.level) l.level l.fn.self l.self l.left;
+  gives : GivesOperand g.X.AsStr.text g.I.Iterator.next_gives g.I.Iterator.can_next g.I.Iterator.remaining
+      (λ s. needed_level s ≡ l.level) l.level l.fn.self l.self l.left;
   undotted : NextIs (Undotted l.left.level) l.self.ahead;
 }
 
@@ -51,7 +51,7 @@ decreases-operators-loop-link g l = left_in g.I.Iterator.remaining l.self
 
 abbrev pub invariant-postfix-loop-self : goal.invariant-postfix-loop-self
 invariant-postfix-loop-self g l = record {
-  gives : Gives g.X.AsStr.text g.I.Iterator.next_gives g.I.Iterator.can_next g.I.Iterator.remaining
+  gives : GivesOperand g.X.AsStr.text g.I.Iterator.next_gives g.I.Iterator.can_next g.I.Iterator.remaining
       (λ s. IsPrimary l.fn.self s) 7 l.fn.self l.self l.operand;
   level_is : l.operand.level ≡ 7;
 }
@@ -63,7 +63,7 @@ abbrev pub invariant-items-loop-alloc : goal.invariant-items-loop-alloc
 invariant-items-loop-alloc g l = record {
   ready : IsReady g.I.Iterator.can_next g.I.Iterator.remaining l.self;
   later : left_in g.I.Iterator.remaining l.self ≤ left_in g.I.Iterator.remaining l.fn.self;
-  lists : (h : Head) (xs : Exprs) (ts : List Lexeme) → Closes h l.close
+  lists : (h : BracketPurpose) (xs : Exprs) (ts : List Lexeme) → Closes h l.close
       → ElementsSoFar g.X.AsStr.text g.I.Iterator.next_gives g.I.Iterator.can_next g.I.Iterator.remaining
       (KeepsItems l.fn.some xs) l.fn.self l.self l.items h xs ts;
 }

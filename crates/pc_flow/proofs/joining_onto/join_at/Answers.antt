@@ -6,7 +6,7 @@ use Rattle.pc_flow.specs.Stored.{env_of, declared_of, HasEach, GivesEnv}
 use Rattle.pc_flow.proofs.Given.{each_kept, keeps_both}
 use Rattle.pc_flow.proofs.Loops.{one_more_among, join_begins, join_goes_on}
 use Rattle.pc_flow.proofs.Settled.{HoldsOf, IsSettled, none_joined, one_joined, onto_ends, onto_takes_in}
-use Rattle.pc_flow.proofs.joining_onto.join_env_onto.Goals as goal
+use Rattle.pc_flow.proofs.joining_onto.join_at.Goals as goal
 
 pub set_joined-requires-clause-declared : goal.set_joined-requires-clause-declared
 set_joined-requires-clause-declared g c = each_kept g.S.TypeStore.has _ _ c.loop-local.invariant.kept

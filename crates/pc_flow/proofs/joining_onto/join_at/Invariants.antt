@@ -4,7 +4,7 @@ use Rattle.pc_flow.specs.Agreement.{is_among}
 use Rattle.pc_flow.specs.Stored.{env_of, declared_of, GivesEnv}
 use Rattle.pc_flow.proofs.Meeting.{join_where}
 use Rattle.pc_flow.proofs.Settled.{HoldsOf, IsSettled}
-use Rattle.pc_flow.proofs.joining_onto.join_env_onto.Given as goal
+use Rattle.pc_flow.proofs.joining_onto.join_at.Given as goal
 
 abbrev pub invariant-loop-local : goal.invariant-loop-local
 invariant-loop-local g l =

@@ -1,6 +1,6 @@
 use Rattle.pc_front.proofs.Composed.{reads, refuses}
 use Rattle.pc_front.proofs.WithinBytes.{answer_within}
-use Rattle.pc_front.proofs.reading.module_in.Goals as goal
+use Rattle.pc_front.proofs.reading.parse_source.Goals as goal
 
 pub returns-clause-read : goal.returns-clause-read
 returns-clause-read c = reads c.args.source.now c.requires c.lines.result (λ items h. (c.lines.ensures.left items).0 h)

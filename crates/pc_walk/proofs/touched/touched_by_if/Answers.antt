@@ -13,7 +13,7 @@ use Rattle.pc_flow.specs.Agreement.{is_among}
 use Rattle.pc_walk.specs.Touched.{numbers_of, tested_in, tested_in_branches}
 use Rattle.pc_flow.proofs.Among.{among_dedup}
 use Rattle.pc_walk.proofs.Among.{among_four}
-use Rattle.pc_walk.proofs.touched.touched_by.Goals as goal
+use Rattle.pc_walk.proofs.touched.touched_by_if.Goals as goal
 
 pub returns : goal.returns
 returns c x =
