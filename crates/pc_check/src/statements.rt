@@ -23,8 +23,8 @@ use pc_statements::{
 use pc_tree::{Branch, Expr, Name, Stmt, StmtKind};
 use pc_types::TypeStore;
 use pc_walk::{
-    IfExits, Walk, bind_item, break_out, declare_unreached, for_start, meet, note_locals,
-    note_touched, touched_by, touched_by_for, touched_by_while, while_start,
+    IfExits, Walk, bind_item, break_out, declare_unreached, for_start, join_exit, note_locals,
+    note_touched, touched_by_for, touched_by_if, touched_by_while, while_start,
 };
 
 /// The exit of a loop while its body is checked.

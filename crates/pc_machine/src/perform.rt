@@ -21,7 +21,7 @@ ghost use Rattle.pc_machine.specs.Calls.{calls_class, calls_reserved};
 ghost use Rattle.pc_machine.specs.declared.state.Callee.TheVariants as callee;
 
 use crate::calls::{
-    bound_arguments, builtin_action, characters, frame_of, slots_of, suited_arguments, text_of,
+    bound_arguments, builtin_action, characters, frame_of, owned_text, slots_of, suited_arguments,
 };
 use crate::halt::{Halt, Stop};
 use crate::machine::{Machine, raised};

@@ -44,9 +44,8 @@ KNOWN: Dict[str, Set[str]] = {
     "a part of an unknown name as every item": {"MiB"},
     "an attribute of an unknown name as every item": {"MiB"},
     "flows into a wide tuple": {"MiB"},
-    # These take nearly as many seconds as they may
+    # This one takes nearly as many seconds as it may
     "methods of a large union": {"seconds"},
-    "large unions that are tested": {"seconds"},
 }
 HEADER = "from __future__ import annotations\n"
 DATACLASS = HEADER + "from dataclasses import dataclass\n"
