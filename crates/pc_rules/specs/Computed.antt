@@ -3,6 +3,7 @@
 pub mod Checkers
 pub mod Expressions
 pub mod Findings
+pub mod ModuleParents
 pub mod Ranges
 pub mod Signatures
 pub mod Standing
