@@ -201,7 +201,7 @@ forget_whole e m parts fs h = record {
 }
 
 forget_called : (e : Expr) (m : Labels e) (parts : List Note) (fs : List Finding) → Forgets parts fs
-    → Forgets (noted.called false e m parts) (whole e m fs)
+    → Forgets (noted.callee_notes false e m parts) (whole e m fs)
 forget_called e m parts fs h = forget_whole e m parts fs h
 
 mutual

@@ -391,8 +391,8 @@ module _ (m : Module) where
     item_listed b (class_item p c) labels = members_listed b.classes 0 c.members labels
     item_listed b (def_item p f) labels = function_listed (owners.Func b.functions) f labels
 
-    abbrev pub all_items_listed : (b : BeforeItem) (items : List Item) (labels : modules.ItemsLabels items)
-        → Listing (modules.ItemsFind m constants b items labels)
+    abbrev pub all_items_listed : (b : BeforeItem) (items : List Item) (labels : modules.ModuleItemsLabels items)
+        → Listing (modules.ModuleItemsFind m constants b items labels)
     all_items_listed b [] labels = nothing_listed
     all_items_listed b (i ∷ rest) labels = both_listed (item_listed b i labels.first)
         (all_items_listed (before_next m b i labels.first) rest labels.rest)

@@ -44,7 +44,7 @@ SuiteKeyed = SuiteSettled tests_in_time
 abbrev pub BranchesKeyed : (bs : Branches) → BranchesLabels bs → Type 0
 BranchesKeyed = BranchesSettled tests_in_time
 
-abbrev pub InitializersKeyed : (items : List Item) → modules.ItemsLabels items → Type 0
+abbrev pub InitializersKeyed : (items : List Item) → modules.ModuleItemsLabels items → Type 0
 InitializersKeyed = InitializersSettled tests_in_time
 
 -- the type of an expression
