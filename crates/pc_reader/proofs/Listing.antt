@@ -157,7 +157,7 @@ module _ {X I : Type 0} (texts : TextOf X) (source : TokensOf I (Result (Token X
       → IsReady source.can_next source.remaining c → left_in source.remaining c < left_in source.remaining a
       → GivesOperand texts source fits 7 a c made
   bracketed {c = c} h xs ts n st bg f lv k rd lt = record {
-    bare_part = bare_part (λ p. head_tree h n.items p) (ts ++ n.more);
+    part = bare_part (λ p. head_tree h n.items p) (ts ++ n.more);
     keeps = k n.items n.keeps (ts ++ n.more) (starts_more n.more st) (ends_more ts n.ends);
     low = omega (arith, lv);
     ready = rd;
@@ -176,7 +176,7 @@ module _ {X I : Type 0} (texts : TextOf X) (source : TokensOf I (Result (Token X
       → OperandGoesOn texts source (λ t p s. item_due (in_call p.tree) no_exprs (p.tokens ++ (t ∷ [])) s) 7 a b
       callee made t p
   called_with t p k n f = record {
-    bare_part = call_part p.tree n.items no_keywords ((p.tokens ++ (t ∷ [])) ++ n.more);
+    part = call_part p.tree n.items no_keywords ((p.tokens ++ (t ∷ [])) ++ n.more);
     keeps = f n.items n.keeps _ (starts_more n.more (starts_more (t ∷ []) k.starts))
         (ends_more (p.tokens ++ (t ∷ [])) n.ends);
     begins = first_more n.more (starts_more (t ∷ []) k.starts) ∙ first_more (t ∷ []) k.starts;

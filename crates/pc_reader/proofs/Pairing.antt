@@ -102,7 +102,7 @@ module _ {X I : Type 0} (texts : TextOf X) (source : TokensOf I (Result (Token X
       → left_in source.remaining b < left_in source.remaining a → GivesOperand texts source
       (λ s. IsAhead (kind.Operator sign.LeftBrace) a.ahead ≡ true) 7 a g made
   entry_last {g = g} {o' = o'} {t = t} {u = u} v n q k e w p h i l m y = record {
-    bare_part = bare_part (λ z. dict z (add_entry v.entries q.part.tree w.part.tree))
+    part = bare_part (λ z. dict z (add_entry v.entries q.part.tree w.part.tree))
         ((v.tokens ++ (q.part.tokens ++ (lexeme texts.text t ∷ []))) ++ (w.part.tokens ++ (lexeme texts.text u ∷ [])));
     keeps = m (add_entry v.entries q.part.tree w.part.tree) (p v.entries q.part w.part v.keeps q.keeps w.keeps) _
         (starts_more _ (starts_more _ v.starts)) (ends_more (v.tokens ++ (q.part.tokens ++ (lexeme texts.text t ∷ [])))
@@ -138,7 +138,7 @@ module _ {X I : Type 0} (texts : TextOf X) (source : TokensOf I (Result (Token X
       → left_in source.remaining b < left_in source.remaining a → GivesOperand texts source
       (λ s. IsAhead (kind.Operator sign.LeftBrace) a.ahead ≡ true) 7 a c made
   entries_end {c = c} {t = t} v h i l m y = record {
-    bare_part = bare_part (λ z. dict z v.entries) (v.tokens ++ (lexeme texts.text t ∷ []));
+    part = bare_part (λ z. dict z v.entries) (v.tokens ++ (lexeme texts.text t ∷ []));
     keeps = m v.entries v.keeps _ (starts_more _ v.starts) (ends_more v.tokens (ends_one (lexeme texts.text t)));
     low = omega (arith, l);
     ready = h.ready;

@@ -75,7 +75,7 @@ module _ {X I : Type 0} (texts : TextOf X) (source : TokensOf I (Result (Token X
       → ((s : Stack) → transition (have o.level v.part s) (lexeme texts.text t) t.kind ≡ go (st k v.part s))
       → GivesOn texts source st 7 c d o o' → GivesOperand texts source fits 7 a d o'
   goes_on st k {d = d} {o = o} {o' = o'} v h f n = let j = n.goes k v.part v.keeps in record {
-    bare_part = j.part;
+    part = j.part;
     keeps = j.keeps;
     low = omega (arith, n.level_is);
     ready = n.ready;
@@ -94,7 +94,7 @@ module _ {X I : Type 0} (texts : TextOf X) (source : TokensOf I (Result (Token X
       → made.level ≡ 7 → ((p k : Part) → KeepsPart o p → KeepsPart inner k → Builds made (λ z. index z p.tree k.tree)
       o.start u.place.end) → GivesOperand texts source fits 7 a f made
   index_on {f = f} {o = o} {inner = inner} {t = t} {u = u} v h i q k j lv m = record {
-    bare_part = bare_part (λ z. index z v.part.tree q.part.tree) ((v.part.tokens ++ (lexeme texts.text t ∷ []))
+    part = bare_part (λ z. index z v.part.tree q.part.tree) ((v.part.tokens ++ (lexeme texts.text t ∷ []))
         ++ (q.part.tokens ++ (lexeme texts.text u ∷ [])));
     keeps = m v.part q.part v.keeps q.keeps _ (starts_more _ (starts_more _ v.keeps.starts))
         (ends_more (v.part.tokens ++ (lexeme texts.text t ∷ [])) (ends_more q.part.tokens
@@ -126,7 +126,7 @@ module _ {X I : Type 0} (texts : TextOf X) (source : TokensOf I (Result (Token X
       → ReadsOperand texts source (λ s. IsPrimary a s) 7 a b r
       → ReadsOperand texts source (λ s. needed_level s ≡ level) level a b r
   unsigned_reads a b (Ok o) level l f h = record {
-    bare_part = h.part;
+    part = h.part;
     keeps = h.keeps;
     low = omega (arith, l, h.low);
     ready = h.ready;

@@ -152,7 +152,7 @@ call-returns-then-sees-2 g t c = let m = c.in_ok-keywords.ensures in on_result c
           c.in_ok-item.ensures.reads in let n = m.names p.tree v.items
           (((p.tokens ++ (k ∷ [])) ++ v.more)
           ++ (q.part.tokens ++ ((lexeme g.X.AsStr.text c.in_ok-take.field-0) ∷ []))) in record {
-            bare_part = call_part p.tree v.items n.arguments
+            part = call_part p.tree v.items n.arguments
                 ((((p.tokens ++ (k ∷ [])) ++ v.more)
                 ++ (q.part.tokens ++ ((lexeme g.X.AsStr.text c.in_ok-take.field-0) ∷ []))) ++ n.more);
             keeps = j.1 p v.items n.arguments kp (v.keeps tt) n.keeps _
@@ -381,7 +381,7 @@ group-returns-in_err-close-clause-reads g t c = let p = err_from_is_err_and c.fr
 
 pub group-returns-then-sees-clause-reads : goal.group-returns-then-sees-clause-reads
 group-returns-then-sees-clause-reads g t c = let k = c.in_ok-close.ensures in record {
-  bare_part = (bare_part (λ p. tuple p no_exprs) ((lexeme g.X.AsStr.text c.in_ok-open.open)
+  part = (bare_part (λ p. tuple p no_exprs) ((lexeme g.X.AsStr.text c.in_ok-open.open)
       ∷ (lexeme g.X.AsStr.text c.in_ok-close.close) ∷ []));
   keeps = c.tuple.ensures.1 no_exprs c.new.ensures _ (starts_one (lexeme g.X.AsStr.text c.in_ok-open.open) _)
       (ends_more ((lexeme g.X.AsStr.text c.in_ok-open.open) ∷ [])
@@ -432,7 +432,7 @@ group-returns-in_err-close-2-clause-reads g t c = let p = err_from_is_err_and c.
 pub group-returns-then-sees-2-clause-reads : goal.group-returns-then-sees-2-clause-reads
 group-returns-then-sees-2-clause-reads g t c = let q = c.in_ok-first.ensures.reads in let k = c.in_ok-close-2.ensures in
     rw c.grouped.ensures (record {
-      bare_part = grouped ((lexeme g.X.AsStr.text c.in_ok-open.open) ∷ []) q.part
+      part = grouped ((lexeme g.X.AsStr.text c.in_ok-open.open) ∷ []) q.part
           (lexeme g.X.AsStr.text c.in_ok-close-2.close);
       keeps = keeps_grouped c.in_ok-first.first q.part (lexeme g.X.AsStr.text c.in_ok-open.open)
           (lexeme g.X.AsStr.text c.in_ok-close-2.close) q.keeps;
@@ -760,7 +760,7 @@ operators-loop-link-preserved-in-Some-2 g t c = let i = rw c.in-Some-2.is at c.i
     c.loop-link.invariant.gives in let h = c.in-Some.ensures in let q = c.in_ok-right.ensures.reads in let j =
     c.in_ok-left-2.ensures in record {
       gives = record {
-        bare_part = joined (infix_of c.in-Some-2.infix) v.part i.tokens q.part;
+        part = joined (infix_of c.in-Some-2.infix) v.part i.tokens q.part;
         keeps = j.1 v.part q.part v.keeps q.keeps _ (starts_more _ v.keeps.starts)
             (ends_more v.part.tokens (ends_more i.tokens q.keeps.ends));
         low = omega (arith, j.0, i.own, h.binds);
@@ -793,7 +793,7 @@ operators-loop-link-preserved g t c = let i = rw c.in_default-2.is at c.in_ok-in
     c.loop-link.invariant.gives in let h = c.in-Some.ensures in let n = c.in_ok-left-3.ensures in let k =
     n.goes i.token v.part v.keeps in record {
       gives = record {
-        bare_part = k.part;
+        part = k.part;
         keeps = k.keeps;
         low = omega (arith, n.level_is, i.own, h.binds);
         ready = n.ready;
@@ -967,7 +967,7 @@ pub signed-returns-then-sees-clause-reads : goal.signed-returns-then-sees-clause
 signed-returns-then-sees-clause-reads g t c = let q = c.in_ok-operand.ensures.reads in let n =
     (c.in_ok-inner.ensures c.in_ok-signs.ensures.reads.tokens q.part c.in_ok-signs.ensures.reads.starts q.keeps).0 in
     on_result c.wrap.result _ _ _ (λ o j. record {
-      bare_part = (applied_all denial ((lexeme g.X.AsStr.text c.in_ok-first.first) ∷ c.in_ok-signs.ensures.reads.tokens)
+      part = (applied_all denial ((lexeme g.X.AsStr.text c.in_ok-first.first) ∷ c.in_ok-signs.ensures.reads.tokens)
           c.in_ok-operand.ensures.reads.part);
       keeps = j.1 (applied_all denial c.in_ok-signs.ensures.reads.tokens q.part) n _
           (starts_one (lexeme g.X.AsStr.text c.in_ok-first.first) (applied_all denial c.in_ok-signs.ensures.reads.tokens
@@ -1017,7 +1017,7 @@ pub signed-returns-clause-reads : goal.signed-returns-clause-reads
 signed-returns-clause-reads g t c = let v = c.in_ok-signs-2.ensures.reads in let q =
     c.in_ok-operand-2.ensures.reads in on_result c.wrap_all-2.result _ _ _
     (λ o j. let n = j v.tokens q.part v.starts q.keeps in record {
-      bare_part = applied_all minus v.tokens q.part;
+      part = applied_all minus v.tokens q.part;
       keeps = n.0;
       low = subst (λ z. c.args.level ≤ z) (sym n.1) (minus_high v.tokens c.args.level c.in_ok-operand-2.operand.level
           c.requires.level (omega (arith, q.low)));
