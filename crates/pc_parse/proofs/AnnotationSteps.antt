@@ -1,6 +1,7 @@
 -- Turns at single tokens inside an annotation.
+use Rattle.std.specs.declared.convert.AsStr.{Ghosts as TextOf}
+use Rattle.std.specs.declared.iter.Iterator.{Ghosts as TokensOf}
 use Rattle.std.proofs.Common.{◌≡◌, ℕ, Bool, false, List, [], ◌∷◌, ◌++◌, Option, Result, refl, ap, sym, ◌∙◌}
-use Rattle.std.specs.Iterator.{Count}
 use Rattle.pc_source.specs.declared.fault.Fault.{Fault}
 use Rattle.pc_token.specs.declared.token.Token.{Token}
 use Rattle.pc_token.specs.declared.token.TokenKind.TheVariants as kind
@@ -25,65 +26,68 @@ pub on_none : (x y z : Bool) (p q r : State) → x ≡ false → y ≡ false →
 on_none x y z p q r ex ey ez = ap (λ v. on v p (on y q (on z r stuck))) ex ∙ ap (λ v. on v q (on z r stuck)) ey
     ∙ ap (λ v. on v r stuck) ez
 
-module _ {X I : Type 0} {text : X → List ℕ} {steps : I → Option (Result (Token X) Fault) → I → Type 0}
-    {can : I → Type 0} {left : I → Count} {a b : Reader X I} {t : Token X} (h : Takes text steps can left a b t) where
+module _ {X I : Type 0} {texts : TextOf X} {source : TokensOf I (Result (Token X) Fault)} {a b : Reader X I}
+    {t : Token X} (h : Takes texts source a b t) where
   pub to_none : (parts : Anns) (before : List Lexeme) (s : AnnStack) → t.kind ≡ kind.Keyword word.None
-      → Onward text steps a b (at (part_due parts before s))
-      (at (part_read (none_type (span (lexeme text t ∷ []))) (lexeme text t ∷ []) parts before s))
+      → Onward texts.text source.next_gives a b (at (part_due parts before s))
+      (at (part_read (none_type (span (lexeme texts.text t ∷ []))) (lexeme texts.text t ∷ []) parts before s))
   to_none parts before s e = step_to (part_due parts before s)
-      (part_read (none_type (span (lexeme text t ∷ []))) (lexeme text t ∷ []) parts before s) h
-      (ap (transition (part_due parts before s) (lexeme text t)) e)
+      (part_read (none_type (span (lexeme texts.text t ∷ []))) (lexeme texts.text t ∷ []) parts before s) h
+      (ap (transition (part_due parts before s) (lexeme texts.text t)) e)
 
   pub to_name : (parts : Anns) (before : List Lexeme) (s : AnnStack) → t.kind ≡ kind.Name
-      → Onward text steps a b (at (part_due parts before s))
-      (at (part_named (name_of_token (lexeme text t)) (lexeme text t ∷ []) parts before s))
+      → Onward texts.text source.next_gives a b (at (part_due parts before s))
+      (at (part_named (name_of_token (lexeme texts.text t)) (lexeme texts.text t ∷ []) parts before s))
   to_name parts before s e = step_to (part_due parts before s)
-      (part_named (name_of_token (lexeme text t)) (lexeme text t ∷ []) parts before s) h
-      (ap (transition (part_due parts before s) (lexeme text t)) e)
+      (part_named (name_of_token (lexeme texts.text t)) (lexeme texts.text t ∷ []) parts before s) h
+      (ap (transition (part_due parts before s) (lexeme texts.text t)) e)
 
   pub to_bracket : (n : Name) (us : List Lexeme) (parts : Anns) (before : List Lexeme) (s : AnnStack)
       → t.kind ≡ kind.Operator sign.LeftBracket
-      → Onward text steps a b (at (part_named n us parts before s))
-      (at (argument_due n (us ++ (lexeme text t ∷ [])) parts before s))
+      → Onward texts.text source.next_gives a b (at (part_named n us parts before s))
+      (at (argument_due n (us ++ (lexeme texts.text t ∷ [])) parts before s))
   to_bracket n us parts before s e = step_to (part_named n us parts before s)
-      (argument_due n (us ++ (lexeme text t ∷ [])) parts before s) h
-      (ap (transition (part_named n us parts before s) (lexeme text t)) e)
+      (argument_due n (us ++ (lexeme texts.text t ∷ [])) parts before s) h
+      (ap (transition (part_named n us parts before s) (lexeme texts.text t)) e)
 
   pub to_parenthesis : (n : Name) (us : List Lexeme) (parts : Anns) (before : List Lexeme) (s : AnnStack)
       → t.kind ≡ kind.Operator sign.LeftParenthesis
-      → Onward text steps a b (at (argument_due n us parts before s))
-      (at (empty_opened n (us ++ (lexeme text t ∷ [])) parts before s))
+      → Onward texts.text source.next_gives a b (at (argument_due n us parts before s))
+      (at (empty_opened n (us ++ (lexeme texts.text t ∷ [])) parts before s))
   to_parenthesis n us parts before s e = step_to (argument_due n us parts before s)
-      (empty_opened n (us ++ (lexeme text t ∷ [])) parts before s) h
-      (ap (transition (argument_due n us parts before s) (lexeme text t)) e)
+      (empty_opened n (us ++ (lexeme texts.text t ∷ [])) parts before s) h
+      (ap (transition (argument_due n us parts before s) (lexeme texts.text t)) e)
 
   pub to_bar : (x : Ann) (us : List Lexeme) (parts : Anns) (before : List Lexeme) (s : AnnStack)
       → t.kind ≡ kind.Operator sign.Bar
-      → Onward text steps a b (at (part_read x us parts before s))
-      (at (part_due (add_ann parts x) (before ++ (us ++ (lexeme text t ∷ []))) s))
+      → Onward texts.text source.next_gives a b (at (part_read x us parts before s))
+      (at (part_due (add_ann parts x) (before ++ (us ++ (lexeme texts.text t ∷ []))) s))
   to_bar x us parts before s e = step_to (part_read x us parts before s)
-      (part_due (add_ann parts x) (before ++ (us ++ (lexeme text t ∷ []))) s) h
-      (ap (transition (part_read x us parts before s) (lexeme text t)) e)
+      (part_due (add_ann parts x) (before ++ (us ++ (lexeme texts.text t ∷ []))) s) h
+      (ap (transition (part_read x us parts before s) (lexeme texts.text t)) e)
 
   pub to_comma : (x : Ann) (us : List Lexeme) (head : Name) (done : Anns) (ts : List Lexeme) (parts : Anns)
       (before : List Lexeme) (s : AnnStack) → t.kind ≡ kind.Operator sign.Comma
-      → Onward text steps a b (at (part_read x us no_anns [] (ann_inside head done ts parts before s)))
-      (at (part_due no_anns [] (ann_inside head (add_ann done x) (ts ++ (us ++ (lexeme text t ∷ []))) parts before
+      → Onward texts.text source.next_gives a b
+      (at (part_read x us no_anns [] (ann_inside head done ts parts before s)))
+      (at (part_due no_anns [] (ann_inside head (add_ann done x) (ts ++ (us ++ (lexeme texts.text t ∷ []))) parts before
       s)))
   to_comma x us head done ts parts before s e = step_to (part_read x us no_anns []
       (ann_inside head done ts parts before s)) (part_due no_anns []
-      (ann_inside head (add_ann done x) (ts ++ (us ++ (lexeme text t ∷ []))) parts before s)) h
-      (ap (transition (part_read x us no_anns [] (ann_inside head done ts parts before s)) (lexeme text t)) e)
+      (ann_inside head (add_ann done x) (ts ++ (us ++ (lexeme texts.text t ∷ []))) parts before s)) h
+      (ap (transition (part_read x us no_anns [] (ann_inside head done ts parts before s)) (lexeme texts.text t)) e)
 
   pub to_close : (x : Ann) (us : List Lexeme) (head : Name) (done : Anns) (ts : List Lexeme) (parts : Anns)
       (before : List Lexeme) (s : AnnStack) → t.kind ≡ kind.Operator sign.RightBracket
-      → Onward text steps a b (at (part_read x us no_anns [] (ann_inside head done ts parts before s)))
-      (at (part_read (applied (span (ts ++ (us ++ (lexeme text t ∷ [])))) head (add_ann done x))
-      (ts ++ (us ++ (lexeme text t ∷ []))) parts before s))
+      → Onward texts.text source.next_gives a b
+      (at (part_read x us no_anns [] (ann_inside head done ts parts before s)))
+      (at (part_read (applied (span (ts ++ (us ++ (lexeme texts.text t ∷ [])))) head (add_ann done x))
+      (ts ++ (us ++ (lexeme texts.text t ∷ []))) parts before s))
   to_close x us head done ts parts before s e = step_to (part_read x us no_anns []
-      (ann_inside head done ts parts before s)) (part_read (applied (span (ts ++ (us ++ (lexeme text t ∷ [])))) head
-      (add_ann done x)) (ts ++ (us ++ (lexeme text t ∷ []))) parts before s) h
-      (ap (transition (part_read x us no_anns [] (ann_inside head done ts parts before s)) (lexeme text t)) e)
+      (ann_inside head done ts parts before s)) (part_read (applied (span (ts ++ (us ++ (lexeme texts.text t ∷ []))))
+      head
+      (add_ann done x)) (ts ++ (us ++ (lexeme texts.text t ∷ []))) parts before s) h
+      (ap (transition (part_read x us no_anns [] (ann_inside head done ts parts before s)) (lexeme texts.text t)) e)
 
 module _ {X I : Type 0} (text : X → List ℕ) (steps : I → Option (Result (Token X) Fault) → I → Type 0)
     (a : Reader X I) where

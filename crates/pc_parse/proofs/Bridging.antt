@@ -1,4 +1,6 @@
 -- From the machine's answers over a stream to the grammar of its tokens.
+use Rattle.std.specs.declared.convert.AsStr.{Ghosts as TextOf}
+use Rattle.std.specs.declared.iter.Iterator.{Ghosts as TokensOf}
 use Rattle.std.proofs.Common.{◌≡◌, ℕ, ◌⊎◌, inl, inr, List, [], ◌∷◌, ◌++◌, map, Option, Some, None, Result, Ok, Err}
 use Rattle.std.proofs.Common.{refl, ap, sym, ◌∙◌, subst}
 use Rattle.pc_source.specs.declared.fault.Fault.{Fault}
@@ -9,7 +11,6 @@ use Rattle.pc_source.specs.Stream as stream
 use Rattle.pc_source.specs.Answers.{OnRefusal}
 use Rattle.pc_token.specs.declared.token.Token.{Token}
 use Rattle.pc_token.specs.Lexeme.{Lexeme}
-use Rattle.std.specs.Iterator.{Count}
 use Rattle.pc_tree.specs.declared.tree.Module.{Module as RustModule}
 use Rattle.pc_tree.specs.Tree.{Module, module_of}
 use Rattle.pc_tree.specs.Depth.{too_deep_at}
@@ -179,18 +180,21 @@ module _ {X I : Type 0} (text : X → List ℕ) (steps : I → Option (Result (T
   blamed it (fault.Refused r) h = answers_fault it r (h.said r refl)
   blamed it fault.OutOfMemory h = tt
 
-  module _ {can : I → Type 0} {left : I → Count} {a b : Parser X I} {v : RustModule} (it : I)
-      (lead : (st : Reading) (o : Result Module Fault) → Came text steps a.reader st o
-      → ComesToAnswer text steps it 0 st o) (none : a.deep ≡ None)
-      (x : GivesModule text steps can left a b v) where
-    depth_is : b.deep ≡ too_deep_at x.tree
-    depth_is = x.keeps.deep ∙ ap (λ z. Rattle.pc_parse.specs.Internal.WholeTrees.deep_after z
-        (Rattle.pc_tree.specs.Depth.wholes_of_items x.tree.items)) none
+module _ {X I : Type 0} (texts : TextOf X) (source : TokensOf I (Result (Token X) Fault)) (it : I)
+    {a b : Parser X I} {v : RustModule}
+    (lead : (st : Reading) (o : Result Module Fault) → Came texts.text source.next_gives a.reader st o
+    → ComesToAnswer texts.text source.next_gives it 0 st o) (none : a.deep ≡ None)
+    (x : GivesModule texts source a b v) where
+  depth_is : b.deep ≡ too_deep_at x.tree
+  depth_is = x.keeps.deep ∙ ap (λ z. Rattle.pc_parse.specs.Internal.WholeTrees.deep_after z
+      (Rattle.pc_tree.specs.Depth.wholes_of_items x.tree.items)) none
 
-    pub shallow_module : b.deep ≡ None → IsRead text steps it (module_of v)
-    shallow_module e = answers_module it (module_of v) x.tree (lead (at start) (Ok x.tree) x.comes) (x.keeps.kept e)
-        (sym depth_is ∙ e)
+  pub shallow_module : b.deep ≡ None → IsRead texts.text source.next_gives it (module_of v)
+  shallow_module e = answers_module texts.text source.next_gives it (module_of v) x.tree
+      (lead (at start) (Ok x.tree) x.comes) (x.keeps.kept e)
+      (sym depth_is ∙ e)
 
-    pub deep_module : (byte : ℕ) → b.deep ≡ Some byte → IsRefusedByTokens text steps it
-        (record { code = code.G2; byte = byte })
-    deep_module byte e = answers_depth it x.tree byte (lead (at start) (Ok x.tree) x.comes) (sym depth_is ∙ e)
+  pub deep_module : (byte : ℕ) → b.deep ≡ Some byte → IsRefusedByTokens texts.text source.next_gives it
+      (record { code = code.G2; byte = byte })
+  deep_module byte e = answers_depth texts.text source.next_gives it x.tree byte (lead (at start) (Ok x.tree) x.comes)
+      (sym depth_is ∙ e)

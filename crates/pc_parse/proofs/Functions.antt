@@ -1,9 +1,10 @@
 -- Functions, as the machine reads them and as the tree holds them.
+use Rattle.std.specs.declared.convert.AsStr.{Ghosts as TextOf}
+use Rattle.std.specs.declared.iter.Iterator.{Ghosts as TokensOf}
 use Rattle.std.proofs.Common.{◌≡◌, ℕ, Bool, true, false, List, [], ◌∷◌, ◌++◌, map, Option, Some, None, Result, Ok, Err}
 use Rattle.std.proofs.Common.{refl, arith, ap, sym, ◌∙◌, subst}
 use Rattle.std.specs.Prelude.{Vec, codes}
 use Rattle.std.specs.declared.alloc.Global.{Global}
-use Rattle.std.specs.Iterator.{Count}
 use Rattle.pc_source.specs.declared.fault.Fault.{Fault}
 use Rattle.pc_source.specs.declared.place.Place.{Place}
 use Rattle.pc_token.specs.declared.token.Token.{Token}
@@ -59,26 +60,26 @@ returned d ps None k = refl
 returned d ps (Some a) k = refl
 
 module _ {X I : Type 0} {text : X → List ℕ} where
-  pub needs_open : (a : Reader X I) (owner : FunctionOwner) (d : DefStart) → NeedsKind text (kind.Operator sign.LeftParenthesis)
+  pub needs_open : (a : Reader X I) (owner : FunctionOwner) (d : DefStart)
+      → NeedsKind text (kind.Operator sign.LeftParenthesis)
       (params_of owner d) a
   needs_open a (of_module top) d = kind_due (kind.Operator sign.LeftParenthesis) [] (param_due d [])
   needs_open a (of_class c ms) d = kind_due (kind.Operator sign.LeftParenthesis) (a_form (codes "self") ∷ [])
       (self_read d)
 
-module _ {X I : Type 0} {text : X → List ℕ} {steps : I → Option (Result (Token X) Fault) → I → Type 0}
-    {can : I → Type 0} {left : I → Count} where
-  opens : {a b : Reader X I} {t : Token X} → Takes text steps can left a b t
+module _ {X I : Type 0} {texts : TextOf X} {source : TokensOf I (Result (Token X) Fault)} where
+  opens : {a b : Reader X I} {t : Token X} → Takes texts source a b t
       → t.kind ≡ kind.Operator sign.LeftParenthesis → (owner : FunctionOwner) (d : DefStart)
-      → Onward text steps a b (at (params_of owner d)) (at (begun (is_method owner) d))
+      → Onward texts.text source.next_gives a b (at (params_of owner d)) (at (begun (is_method owner) d))
   opens h k (of_module top) d = kind_read (kind.Operator sign.LeftParenthesis) h k [] (param_due d [])
   opens h k (of_class c ms) d = kind_read (kind.Operator sign.LeftParenthesis) h k (a_form (codes "self") ∷ [])
       (self_read d)
 
   -- ---- signatures
 
-  signature_so : (a p b : Parser X I) {t : Token X} (method : Bool) → Takes text steps can left a.reader p.reader t
+  signature_so : (a p b : Parser X I) {t : Token X} (method : Bool) → Takes texts source a.reader p.reader t
       → t.kind ≡ kind.Operator sign.LeftParenthesis → p.deep ≡ a.deep → (r : Result (Vec RustParam Global) Fault)
-      → ReadsParamsFrom text steps can left (begun method) p b r → ReadsSignature text steps can left method a b r
+      → ReadsParamsFrom texts source (begun method) p b r → ReadsSignature texts source method a b r
   signature_so a p b method h k same (Ok v) x = record {
     params = x.params;
     keeps = record {
@@ -88,31 +89,32 @@ module _ {X I : Type 0} {text : X → List ℕ} {steps : I → Option (Result (T
     };
     ready = x.ready;
     later = omega (arith, x.later, h.later);
-    leads = λ owner d m o y. opens h k owner d o (subst (λ z. Came text steps p.reader (at (begun z d)) o) (sym m)
+    leads = λ owner d m o y. opens h k owner d o
+        (subst (λ z. Came texts.text source.next_gives p.reader (at (begun z d)) o) (sym m)
         (x.leads d o y));
   }
   signature_so a p b method h k same (Err e) x = blame (λ o w. λ owner d m. opens h k owner d o
-      (subst (λ z. Came text steps p.reader (at (begun z d)) o) (sym m) (w d))) x
+      (subst (λ z. Came texts.text source.next_gives p.reader (at (begun z d)) o) (sym m) (w d))) x
 
-  pub signature_of_method : (a p b : Parser X I) {t : Token X} → Takes text steps can left a.reader p.reader t
+  pub signature_of_method : (a p b : Parser X I) {t : Token X} → Takes texts source a.reader p.reader t
       → t.kind ≡ kind.Operator sign.LeftParenthesis → p.deep ≡ a.deep → (r : Result (Vec RustParam Global) Fault)
-      → ReadsParamsFrom text steps can left (λ d. fixed (a_form (codes "self")) [] (self_read d)) p b r
-      → ReadsSignature text steps can left true a b r
+      → ReadsParamsFrom texts source (λ d. fixed (a_form (codes "self")) [] (self_read d)) p b r
+      → ReadsSignature texts source true a b r
   signature_of_method a p b h k same r x = signature_so a p b true h k same r x
 
-  pub signature_of_function : (a p b : Parser X I) {t : Token X} → Takes text steps can left a.reader p.reader t
+  pub signature_of_function : (a p b : Parser X I) {t : Token X} → Takes texts source a.reader p.reader t
       → t.kind ≡ kind.Operator sign.LeftParenthesis → p.deep ≡ a.deep → (r : Result (Vec RustParam Global) Fault)
-      → ReadsParamsFrom text steps can left (λ d. param_due d []) p b r → ReadsSignature text steps can left false a b r
+      → ReadsParamsFrom texts source (λ d. param_due d []) p b r → ReadsSignature texts source false a b r
   signature_of_function a p b h k same r x = signature_so a p b false h k same r x
 
   -- ---- methods
 
   -- after `self`
   pub after_self : (a p b : Parser X I) {t : Token X} {u : Token X} {m : Reader X I}
-      → TakesForm text steps can left (codes "self") a.reader m t → Takes text steps can left m p.reader u
+      → TakesForm texts source (codes "self") a.reader m t → Takes texts source m p.reader u
       → u.kind ≡ kind.Operator sign.Comma → p.deep ≡ a.deep → (r : Result (Vec RustParam Global) Fault)
-      → ReadsParamsFrom text steps can left (λ d. param_due d []) p b r
-      → ReadsParamsFrom text steps can left (λ d. fixed (a_form (codes "self")) [] (self_read d)) a b r
+      → ReadsParamsFrom texts source (λ d. param_due d []) p b r
+      → ReadsParamsFrom texts source (λ d. fixed (a_form (codes "self")) [] (self_read d)) a b r
   after_self a p b {u = u} f h k same (Ok v) x = record {
     params = x.params;
     keeps = record {
@@ -123,15 +125,15 @@ module _ {X I : Type 0} {text : X → List ℕ} {steps : I → Option (Result (T
     ready = x.ready;
     later = omega (arith, x.later, h.later, f.takes.later);
     leads = λ d o y. form_read f [] (self_read d) o (step_to (self_read d) (param_due d []) h
-        (ap (transition (self_read d) (lexeme text u)) k) o (x.leads d o y));
+        (ap (transition (self_read d) (lexeme texts.text u)) k) o (x.leads d o y));
   }
   after_self a p b {u = u} f h k same (Err e) x = blame (λ o w. λ d. form_read f [] (self_read d) o
-      (step_to (self_read d) (param_due d []) h (ap (transition (self_read d) (lexeme text u)) k) o (w d))) x
+      (step_to (self_read d) (param_due d []) h (ap (transition (self_read d) (lexeme texts.text u)) k) o (w d))) x
 
   pub self_alone : {a b : Parser X I} {t : Token X} {u : Token X} {m : Reader X I} {v : Vec RustParam Global}
-      → TakesForm text steps can left (codes "self") a.reader m t → Takes text steps can left m b.reader u
+      → TakesForm texts source (codes "self") a.reader m t → Takes texts source m b.reader u
       → u.kind ≡ kind.Operator sign.RightParenthesis → b.deep ≡ a.deep
-      → v.items ≡ [] → GivesParams text steps can left (λ d. fixed (a_form (codes "self")) [] (self_read d)) a b v
+      → v.items ≡ [] → GivesParams texts source (λ d. fixed (a_form (codes "self")) [] (self_read d)) a b v
   self_alone {a = a} {b = b} {u = u} {v = v} f h k same e = record {
     params = [];
     keeps = subst (λ z. KeepsTree (λ (w : Vec RustParam Global). map param_of w.items) wholes_of_params a.deep z v [])
@@ -139,14 +141,14 @@ module _ {X I : Type 0} {text : X → List ℕ} {steps : I → Option (Result (T
     ready = h.ready;
     later = omega (arith, h.later, f.takes.later);
     leads = λ d o y. form_read f [] (self_read d) o (step_to (self_read d) (params_read d []) h
-        (ap (transition (self_read d) (lexeme text u)) k) o y);
+        (ap (transition (self_read d) (lexeme texts.text u)) k) o y);
   }
 
-  pub self_unclosed : {a m : Reader X I} {t : Token X} {e : Fault} → TakesForm text steps can left (codes "self") a m t
+  pub self_unclosed : {a m : Reader X I} {t : Token X} {e : Fault} → TakesForm texts source (codes "self") a m t
       → IsAhead (kind.Operator sign.Comma) m.ahead ≡ false
-      → Blames e (λ o. (st : State) → NeedsKind text (kind.Operator sign.RightParenthesis) st m
-      → Came text steps m (at st) o) → Blames e (λ o. (d : DefStart)
-      → Came text steps a (at (fixed (a_form (codes "self")) [] (self_read d))) o)
+      → Blames e (λ o. (st : State) → NeedsKind texts.text (kind.Operator sign.RightParenthesis) st m
+      → Came texts.text source.next_gives m (at st) o) → Blames e (λ o. (d : DefStart)
+      → Came texts.text source.next_gives a (at (fixed (a_form (codes "self")) [] (self_read d))) o)
   self_unclosed {m = m} f p w = blame (λ o u. λ d. form_read f [] (self_read d) o (u (self_read d) (record {
     unfinished = refl;
     stuck_at = λ t h e. ap (λ z. on z (param_due d []) (on (same_kind t.kind (kind.Operator sign.RightParenthesis))
@@ -157,50 +159,54 @@ module _ {X I : Type 0} {text : X → List ℕ} {steps : I → Option (Result (T
   -- ---- functions
 
   pub signature_fails : (a : Parser X I) (method : Bool) {m : Reader X I} {name : RustName} {e : Fault}
-      → GivesName text steps can left a.reader m name
+      → GivesName texts source a.reader m name
       → Blames e (λ o. (owner : FunctionOwner) (d : DefStart) → is_method owner ≡ method
-      → Came text steps m (at (params_of owner d)) o)
+      → Came texts.text source.next_gives m (at (params_of owner d)) o)
       → Blames e (λ o. (owner : FunctionOwner) (first : Place) → is_method owner ≡ method
-      → Came text steps a.reader (at (def_due owner first)) o)
+      → Came texts.text source.next_gives a.reader (at (def_due owner first)) o)
   signature_fails a method n w = blame (λ o u. λ owner first i. let d : DefStart =
-      record { owner = owner; first = first; name = name_of_token (lexeme text n.token) } in
-      step_to (def_due owner first) (params_of owner d) n.takes (ap (transition (def_due owner first) (lexeme text n.token))
+      record { owner = owner; first = first; name = name_of_token (lexeme texts.text n.token) } in
+      step_to (def_due owner first) (params_of owner d) n.takes
+      (ap (transition (def_due owner first) (lexeme texts.text n.token))
       n.is) o (u owner d i)) w
 
   module _ (a : Parser X I) {p q : Parser X I} {name : RustName} {method : Bool} {v : Vec RustParam Global}
-      (n : GivesName text steps can left a.reader p.reader name) (same : p.deep ≡ a.deep)
-      (x : GivesSignature text steps can left method p q v) where
+      (n : GivesName texts source a.reader p.reader name) (same : p.deep ≡ a.deep)
+      (x : GivesSignature texts source method p q v) where
     to_params : (owner : FunctionOwner) (first : Place) → is_method owner ≡ method
-        → Onward text steps a.reader q.reader (at (def_due owner first))
-        (at (params_read (record { owner = owner; first = first; name = name_of_token (lexeme text n.token) }) x.params))
+        → Onward texts.text source.next_gives a.reader q.reader (at (def_due owner first))
+        (at (params_read (record { owner = owner; first = first; name = name_of_token (lexeme texts.text n.token) })
+        x.params))
     to_params owner first m o y = let d : DefStart = record {
       owner = owner;
       first = first;
       name =
-          name_of_token (lexeme text n.token);
+          name_of_token (lexeme texts.text n.token);
     } in
         step_to (def_due owner first) (params_of owner d) n.takes
-        (ap (transition (def_due owner first) (lexeme text n.token)) n.is) o (x.leads owner d m o y)
+        (ap (transition (def_due owner first) (lexeme texts.text n.token)) n.is) o (x.leads owner d m o y)
 
-    bare : (d : DefStart) → StandsBefore text q.reader (params_read d x.params)
+    bare : (d : DefStart) → StandsBefore texts.text q.reader (params_read d x.params)
         (opens_ann sign.Arrow (of_return d x.params) (λ k. on (same_kind k (kind.Operator sign.Colon))
         (suite_of (def_body (head_of d x.params None))) stuck))
     bare d = stands_at (params_read d x.params) (opens_ann sign.Arrow (of_return d x.params)
         (λ k. on (same_kind k (kind.Operator sign.Colon)) (suite_of (def_body (head_of d x.params None))) stuck)) refl
         (λ t k. refl)
 
-    pub returns_fail : {e : Fault} → Blames e (λ o. (st : State) (c : AnnotationPosition) (other : TokenKind → Transition)
-        → StandsBefore text q.reader st (opens_ann sign.Arrow c other) → Came text steps q.reader (at st) o)
+    pub returns_fail : {e : Fault} → Blames e (λ o. (st : State) (c : AnnotationPosition)
+        (other : TokenKind → Transition)
+        → StandsBefore texts.text q.reader st (opens_ann sign.Arrow c other)
+        → Came texts.text source.next_gives q.reader (at st) o)
         → Blames e (λ o. (owner : FunctionOwner) (first : Place) → is_method owner ≡ method
-        → Came text steps a.reader (at (def_due owner first)) o)
+        → Came texts.text source.next_gives a.reader (at (def_due owner first)) o)
     returns_fail w = blame (λ o u. λ owner first m. let d : DefStart =
-        record { owner = owner; first = first; name = name_of_token (lexeme text n.token) } in
+        record { owner = owner; first = first; name = name_of_token (lexeme texts.text n.token) } in
         to_params owner first m o (u (params_read d x.params) (of_return d x.params)
         (λ k. on (same_kind k (kind.Operator sign.Colon)) (suite_of (def_body (head_of d x.params None))) stuck)
         (bare d))) w
 
-    module _ {r : Parser X I} {ann : Option RustAnn} (z : GivesOpened text steps can left sign.Arrow q r ann) where
-      to_colon : (d : DefStart) → LeadsTo text steps q.reader r.reader (params_read d x.params)
+    module _ {r : Parser X I} {ann : Option RustAnn} (z : GivesOpened texts source sign.Arrow q r ann) where
+      to_colon : (d : DefStart) → LeadsTo texts.text source.next_gives q.reader r.reader (params_read d x.params)
           (λ k. on (same_kind k (kind.Operator sign.Colon)) (suite_of (def_body (head_of d x.params z.annotation)))
           stuck)
       to_colon d = reached_so (λ k. on (same_kind k (kind.Operator sign.Colon))
@@ -209,45 +215,53 @@ module _ {X I : Type 0} {text : X → List ℕ} {steps : I → Option (Result (T
           (λ k. on (same_kind k (kind.Operator sign.Colon)) (suite_of (def_body (head_of d x.params None))) stuck)
           (bare d)) (λ t h. returned d x.params z.annotation t.kind)
 
-      pub colon_fails : {e : Fault} → Blames e (λ o. (st : State) → NeedsKind text (kind.Operator sign.Colon) st
-          r.reader → Came text steps r.reader (at st) o)
+      pub colon_fails : {e : Fault} → Blames e (λ o. (st : State) → NeedsKind texts.text (kind.Operator sign.Colon) st
+          r.reader → Came texts.text source.next_gives r.reader (at st) o)
           → Blames e (λ o. (owner : FunctionOwner) (first : Place) → is_method owner ≡ method
-          → Came text steps a.reader (at (def_due owner first)) o)
+          → Came texts.text source.next_gives a.reader (at (def_due owner first)) o)
       colon_fails w = blame (λ o u. λ owner first m. let d : DefStart =
-          record { owner = owner; first = first; name = name_of_token (lexeme text n.token) } in let y = to_colon d in
+          record { owner = owner; first = first; name = name_of_token (lexeme texts.text n.token) } in let y =
+          to_colon d in
           to_params owner first m o
           (y.leads o (u y.behind (awaits (kind.Operator sign.Colon)
           (suite_of (def_body (head_of d x.params z.annotation))) y.stands (λ t h. refl))))) w
 
-      module _ (s : Parser X I) {t : Token X} (h : Takes text steps can left r.reader s.reader t)
+      module _ (s : Parser X I) {t : Token X} (h : Takes texts source r.reader s.reader t)
           (k : t.kind ≡ kind.Operator sign.Colon) where
         to_suite : (owner : FunctionOwner) (first : Place) → is_method owner ≡ method
-            → Onward text steps a.reader s.reader (at (def_due owner first))
+            → Onward texts.text source.next_gives a.reader s.reader (at (def_due owner first))
             (at
             (suite_of
-            (def_body (head_of (record { owner = owner; first = first; name = name_of_token (lexeme text n.token) })
+            (def_body (head_of (record {
+              owner = owner;
+              first = first;
+              name = name_of_token (lexeme texts.text n.token);
+            })
             x.params z.annotation))))
         to_suite owner first m o y = let d : DefStart = record {
           owner = owner;
           first = first;
           name =
-              name_of_token (lexeme text n.token);
+              name_of_token (lexeme texts.text n.token);
         } in
             to_params owner first m o (reaches_to (suite_of (def_body (head_of d x.params z.annotation))) (to_colon d) h
             (takes (kind.Operator sign.Colon) t.kind (suite_of (def_body (head_of d x.params z.annotation))) stuck
             k) o y)
 
-        pub suite_fails : {e : Fault} → Blames e (λ o. (block : Block) → Came text steps s.reader (at (suite_of block))
+        pub suite_fails : {e : Fault} → Blames e (λ o. (block : Block) → Came texts.text source.next_gives s.reader
+            (at (suite_of block))
             o)
             → Blames e (λ o. (owner : FunctionOwner) (first : Place) → is_method owner ≡ method
-            → Came text steps a.reader (at (def_due owner first)) o)
+            → Came texts.text source.next_gives a.reader (at (def_due owner first)) o)
         suite_fails w = blame (λ o u. λ owner first m. to_suite owner first m o
-            (u (def_body (head_of (record { owner = owner; first = first; name = name_of_token (lexeme text n.token) })
+            (u
+            (def_body
+            (head_of (record { owner = owner; first = first; name = name_of_token (lexeme texts.text n.token) })
             x.params z.annotation)))) w
 
         pub function_read : {b : Parser X I} {body : Vec RustStmt Global} → s.deep ≡ r.deep
-            → GivesSuite text steps can left s b body
-            → GivesFunction text steps can left method a b (record {
+            → GivesSuite texts source s b body
+            → GivesFunction texts source method a b (record {
               name = name;
               params = v;
               returns = ann;
@@ -260,7 +274,7 @@ module _ {X I : Type 0} {text : X → List ℕ} {steps : I → Option (Result (T
             let first_is : q.deep ≡ deep_after a.deep (wholes_of_params x.params) =
             subst (λ i. q.deep ≡ deep_after i (wholes_of_params x.params)) same x.keeps.deep in record {
               function = record {
-                name = name_of_token (lexeme text n.token);
+                name = name_of_token (lexeme texts.text n.token);
                 params = x.params;
                 returns = z.annotation;
                 body = y.statements;
@@ -278,16 +292,23 @@ module _ {X I : Type 0} {text : X → List ℕ} {steps : I → Option (Result (T
                     let make : Name → List Param → Option Ann → Stmts → FuncDef = λ i ps j ss.
                     record { name = i; params = ps; returns = j; body = ss } in
                     ap (λ i. make i (map param_of v.items) (option_ann_of ann) (stmts_of_list body.items)) n.name
-                    ∙ ap (λ i. make (name_of_token (lexeme text n.token)) i (option_ann_of ann) (stmts_of_list body.items))
+                    ∙ ap (λ i. make (name_of_token (lexeme texts.text n.token)) i (option_ann_of ann)
+                    (stmts_of_list body.items))
                     (x.keeps.kept eq)
-                    ∙ ap (λ i. make (name_of_token (lexeme text n.token)) x.params i (stmts_of_list body.items))
+                    ∙ ap (λ i. make (name_of_token (lexeme texts.text n.token)) x.params i (stmts_of_list body.items))
                     (z.keeps.kept er)
-                    ∙ ap (λ i. make (name_of_token (lexeme text n.token)) x.params z.annotation i) (y.keeps.kept e);
+                    ∙ ap (λ i. make (name_of_token (lexeme texts.text n.token)) x.params z.annotation i)
+                    (y.keeps.kept e);
               };
               ready = y.ready;
               later = omega (arith, y.later, h.later, z.later, x.later, n.takes.later);
               leads = λ owner first m o i. to_suite owner first m o
                   (y.leads
-                  (def_body (head_of (record { owner = owner; first = first; name = name_of_token (lexeme text n.token) })
+                  (def_body
+                  (head_of (record {
+                    owner = owner;
+                    first = first;
+                    name = name_of_token (lexeme texts.text n.token);
+                  })
                   x.params z.annotation)) o i);
             }

@@ -1,8 +1,9 @@
 -- Headers, as the machine reads them.
+use Rattle.std.specs.declared.convert.AsStr.{Ghosts as TextOf}
+use Rattle.std.specs.declared.iter.Iterator.{Ghosts as TokensOf}
 use Rattle.std.proofs.Common.{◌≡◌, ℕ, ◌&&◌, Bool, true, false, List, [], ◌∷◌, Option, Some, Result, refl, arith, ap}
 use Rattle.std.proofs.Common.{sym, ◌∙◌}
 use Rattle.std.specs.Prelude.{codes, bytes_eq}
-use Rattle.std.specs.Iterator.{Count}
 use Rattle.pc_source.specs.declared.fault.Fault.{Fault}
 use Rattle.pc_token.specs.declared.token.Token.{Token}
 use Rattle.pc_token.specs.declared.token.TokenKind.TheVariants as kind
@@ -98,20 +99,20 @@ module _ {X I : Type 0} (text : X → List ℕ) (steps : I → Option (Result (T
       (items after_headers (record top { imports_any = true }))) stuck))
       (no_more (same_kind t.kind kind.Name && bytes_eq (lexeme text t).form (codes "dataclasses"))))
 
-module _ {X I : Type 0} {text : X → List ℕ} {steps : I → Option (Result (Token X) Fault) → I → Type 0}
-    {can : I → Type 0} {left : I → Count} where
-  pub from_read : {a b : Reader X I} {t : Token X} (stage : HeaderStage) (top : Top) → Takes text steps can left a b t
-      → t.kind ≡ kind.Keyword word.From → takes_header stage ≡ true → Onward text steps a b (at (items stage top))
+module _ {X I : Type 0} {texts : TextOf X} {source : TokensOf I (Result (Token X) Fault)} where
+  pub from_read : {a b : Reader X I} {t : Token X} (stage : HeaderStage) (top : Top) → Takes texts source a b t
+      → t.kind ≡ kind.Keyword word.From → takes_header stage ≡ true → Onward texts.text source.next_gives a b
+      (at (items stage top))
       (at (importing stage top))
   from_read {t = t} stage top h k s = step_to (items stage top) (importing stage top) h
-      (ap (transition (items stage top) (lexeme text t)) k ∙ ap (λ z. on z (importing stage top) stuck) s)
+      (ap (transition (items stage top) (lexeme texts.text t)) k ∙ ap (λ z. on z (importing stage top) stuck) s)
 
   -- an import is read from its tokens
-  pub import_read : (source imported : List ℕ) {a p q r b : Reader X I} {t u v w : Token X}
-      → TakesForm text steps can left source a p t → Takes text steps can left p q u → u.kind ≡ kind.Keyword word.Import
-      → TakesForm text steps can left imported q r v → Takes text steps can left r b w → w.kind ≡ kind.Newline
-      → GivesFixed text steps can left (import_words source imported) a b
-  import_read source imported f h k g j i = record {
+  pub import_read : (origin imported : List ℕ) {a p q r b : Reader X I} {t u v w : Token X}
+      → TakesForm texts source origin a p t → Takes texts source p q u → u.kind ≡ kind.Keyword word.Import
+      → TakesForm texts source imported q r v → Takes texts source r b w → w.kind ≡ kind.Newline
+      → GivesFixed texts source (import_words origin imported) a b
+  import_read origin imported f h k g j i = record {
     ready = j.ready;
     later = omega (arith, f.takes.later, h.later, g.takes.later, j.later);
     leads = λ next o y. form_read f (a_kind (kind.Keyword word.Import) ∷ a_form imported ∷ a_kind kind.Newline ∷ [])
@@ -121,67 +122,74 @@ module _ {X I : Type 0} {text : X → List ℕ} {steps : I → Option (Result (T
   }
 
   -- up to the items, or to the second header
-  pub begun : {a m b : Reader X I} {t : Token X} → Takes text steps can left a m t → t.kind ≡ kind.Keyword word.From
-      → GivesFixed text steps can left (import_words (codes "__future__") (codes "annotations")) m b
-      → Onward text steps a b (at start) (at (items after_future no_top))
+  pub begun : {a m b : Reader X I} {t : Token X} → Takes texts source a m t → t.kind ≡ kind.Keyword word.From
+      → GivesFixed texts source (import_words (codes "__future__") (codes "annotations")) m b
+      → Onward texts.text source.next_gives a b (at start) (at (items after_future no_top))
   begun h k f o y = kind_read (kind.Keyword word.From) h k (import_words (codes "__future__") (codes "annotations"))
       (items after_future no_top) o (f.leads (items after_future no_top) o y)
 
-  pub future_fails : {a m : Reader X I} {t : Token X} {e : Fault} → Takes text steps can left a m t
+  pub future_fails : {a m : Reader X I} {t : Token X} {e : Fault} → Takes texts source a m t
       → t.kind ≡ kind.Keyword word.From
       → Blames e (λ o. (next : State)
-      → Came text steps m (at (due (import_words (codes "__future__") (codes "annotations")) next)) o)
-      → Blames e (λ o. Came text steps a (at start) o)
+      → Came texts.text source.next_gives m (at (due (import_words (codes "__future__") (codes "annotations")) next)) o)
+      → Blames e (λ o. Came texts.text source.next_gives a (at start) o)
   future_fails h k w = blame (λ o u. kind_read (kind.Keyword word.From) h k
       (import_words (codes "__future__") (codes "annotations")) (items after_future no_top) o
       (u (items after_future no_top))) w
 
-  module _ (a : Reader X I) {b p : Reader X I} {t : Token X} (so_far : Onward text steps a b (at start)
-      (at (items after_future no_top))) (h : Takes text steps can left b p t)
+  module _ (a : Reader X I) {b p : Reader X I} {t : Token X} (so_far : Onward texts.text source.next_gives a b
+      (at start)
+      (at (items after_future no_top))) (h : Takes texts source b p t)
       (k : t.kind ≡ kind.Keyword word.From) where
-    second : Onward text steps a p (at start) (at (importing after_future no_top))
+    second : Onward texts.text source.next_gives a p (at start) (at (importing after_future no_top))
     second o y = so_far o (from_read after_future no_top h k refl o y)
 
-    pub typing_fails : (e : Fault) → IsFormAhead text (codes "dataclasses") p.ahead ≡ false
+    pub typing_fails : (e : Fault) → IsFormAhead texts.text (codes "dataclasses") p.ahead ≡ false
         → Blames e (λ o. (next : State)
-        → Came text steps p (at (due (import_words (codes "typing") (codes "Any")) next)) o)
-        → Blames e (λ o. Came text steps a (at start) o)
+        → Came texts.text source.next_gives p (at (due (import_words (codes "typing") (codes "Any")) next)) o)
+        → Blames e (λ o. Came texts.text source.next_gives a (at start) o)
     typing_fails e n w =
-        blame (λ o u. second o (of_typing text steps p no_top n o
+        blame (λ o u. second o (of_typing texts.text source.next_gives p no_top n o
         (u (items after_headers (record no_top { imports_any = true }))))) w
 
-    pub typed : {d : Reader X I} → IsFormAhead text (codes "dataclasses") p.ahead ≡ false
-        → GivesFixed text steps can left (import_words (codes "typing") (codes "Any")) p d
-        → Onward text steps a d (at start) (at (items after_headers (record no_top { imports_any = true })))
-    typed n f o y = second o (of_typing text steps p no_top n o
+    pub typed : {d : Reader X I} → IsFormAhead texts.text (codes "dataclasses") p.ahead ≡ false
+        → GivesFixed texts source (import_words (codes "typing") (codes "Any")) p d
+        → Onward texts.text source.next_gives a d (at start)
+        (at (items after_headers (record no_top { imports_any = true })))
+    typed n f o y = second o (of_typing texts.text source.next_gives p no_top n o
         (f.leads (items after_headers (record no_top { imports_any = true })) o y))
 
-    pub dataclasses_fail : (e : Fault) → IsFormAhead text (codes "dataclasses") p.ahead ≡ true
+    pub dataclasses_fail : (e : Fault) → IsFormAhead texts.text (codes "dataclasses") p.ahead ≡ true
         → Blames e (λ o. (next : State)
-        → Came text steps p (at (due (import_words (codes "dataclasses") (codes "dataclass")) next)) o)
-        → Blames e (λ o. Came text steps a (at start) o)
+        → Came texts.text source.next_gives p (at (due (import_words (codes "dataclasses") (codes "dataclass")) next))
+        o)
+        → Blames e (λ o. Came texts.text source.next_gives a (at start) o)
     dataclasses_fail e n w =
-        blame (λ o u. second o (of_dataclasses text steps p no_top n o (u (items after_dataclasses dataclassed)))) w
+        blame (λ o u. second o (of_dataclasses texts.text source.next_gives p no_top n o
+        (u (items after_dataclasses dataclassed)))) w
 
-    pub classed : {d : Reader X I} → IsFormAhead text (codes "dataclasses") p.ahead ≡ true
-        → GivesFixed text steps can left (import_words (codes "dataclasses") (codes "dataclass")) p d
-        → Onward text steps a d (at start) (at (items after_dataclasses dataclassed))
-    classed n f o y = second o (of_dataclasses text steps p no_top n o
+    pub classed : {d : Reader X I} → IsFormAhead texts.text (codes "dataclasses") p.ahead ≡ true
+        → GivesFixed texts source (import_words (codes "dataclasses") (codes "dataclass")) p d
+        → Onward texts.text source.next_gives a d (at start) (at (items after_dataclasses dataclassed))
+    classed n f o y = second o (of_dataclasses texts.text source.next_gives p no_top n o
         (f.leads (items after_dataclasses dataclassed) o y))
 
-  module _ (a : Reader X I) {b p : Reader X I} {t : Token X} (so_far : Onward text steps a b (at start)
-      (at (items after_dataclasses dataclassed))) (h : Takes text steps can left b p t)
+  module _ (a : Reader X I) {b p : Reader X I} {t : Token X} (so_far : Onward texts.text source.next_gives a b
+      (at start)
+      (at (items after_dataclasses dataclassed))) (h : Takes texts source b p t)
       (k : t.kind ≡ kind.Keyword word.From) where
     pub then_typing_fails : (e : Fault) → Blames e (λ o. (next : State)
-        → Came text steps p (at (due (import_words (codes "typing") (codes "Any")) next)) o)
-        → Blames e (λ o. Came text steps a (at start) o)
+        → Came texts.text source.next_gives p (at (due (import_words (codes "typing") (codes "Any")) next)) o)
+        → Blames e (λ o. Came texts.text source.next_gives a (at start) o)
     then_typing_fails e w =
         blame (λ o u. so_far o (from_read after_dataclasses dataclassed h k refl o
-        (then_typing text steps p dataclassed o (u (items after_headers (record dataclassed { imports_any = true }))))))
+        (then_typing texts.text source.next_gives p dataclassed o
+        (u (items after_headers (record dataclassed { imports_any = true }))))))
         w
 
-    pub then_typed : {d : Reader X I} → GivesFixed text steps can left (import_words (codes "typing") (codes "Any")) p d
-        → Onward text steps a d (at start) (at (items after_headers (record dataclassed { imports_any = true })))
+    pub then_typed : {d : Reader X I} → GivesFixed texts source (import_words (codes "typing") (codes "Any")) p d
+        → Onward texts.text source.next_gives a d (at start)
+        (at (items after_headers (record dataclassed { imports_any = true })))
     then_typed f o y = so_far o (from_read after_dataclasses dataclassed h k refl o
-        (then_typing text steps p dataclassed o
+        (then_typing texts.text source.next_gives p dataclassed o
         (f.leads (items after_headers (record dataclassed { imports_any = true })) o y)))

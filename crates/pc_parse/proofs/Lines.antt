@@ -1,9 +1,10 @@
 -- Whole expressions, and lines with their ends.
-use Rattle.std.proofs.Common.{◌≡◌, ℕ, ◌≤◌, ◌<◌, ◌⊎◌, inl, inr, true, false, List, [], ◌∷◌, Option, Some, None, Result}
+use Rattle.std.specs.declared.convert.AsStr.{Ghosts as TextOf}
+use Rattle.std.specs.declared.iter.Iterator.{Ghosts as TokensOf}
+use Rattle.std.proofs.Common.{◌≡◌, ◌≤◌, ◌<◌, ◌⊎◌, inl, inr, true, false, [], ◌∷◌, Option, Some, None, Result}
 use Rattle.std.proofs.Common.{Ok, Err, refl, arith, ap, sym, ◌∙◌, subst}
 use Rattle.std.specs.Prelude.{Vec}
 use Rattle.std.specs.declared.alloc.Global.{Global}
-use Rattle.std.specs.Iterator.{Count}
 use Rattle.pc_source.specs.declared.fault.Fault.{Fault}
 use Rattle.pc_source.specs.declared.place.Place.{Place}
 use Rattle.pc_token.specs.declared.token.Token.{Token}
@@ -42,35 +43,38 @@ ahead_kind {k = k} {t = t} h e = some (sym h ∙ ap kind_ahead e)
     some : Some k ≡ Some t.kind → k ≡ t.kind
     some q = cc
 
-module _ {X I : Type 0} (text : X → List ℕ) (steps : I → Option (Result (Token X) Fault) → I → Type 0)
-    (can : I → Type 0) (left : I → Count) where
+module _ {X I : Type 0} (texts : TextOf X) (source : TokensOf I (Result (Token X) Fault)) where
   -- an expression that was read and noted
   pub whole_given : (a b : Parser X I) (r : Reader X I) (o : Operand) → b.reader ≡ r
       → b.deep ≡ deep_after a.deep (record { start = o.first; depth = o.depth } ∷ [])
-      → GivesOperand text steps can left (λ s. needed_level s ≡ 0) 0 a.reader r o → NextIs (Over 0 o.level) r.ahead
-      → NextIs (Undotted o.level) r.ahead → GivesWhole text steps can left a b o
+      → GivesOperand texts source (λ s. needed_level s ≡ 0) 0 a.reader r o → NextIs (Over 0 o.level) r.ahead
+      → NextIs (Undotted o.level) r.ahead → GivesWhole texts source a b o
   whole_given a b r o e d g v u = record {
     part = g.part;
     keeps = g.keeps;
     begins = g.begins;
     deep = d ∙ note_of a.deep o.first o.depth _ (whole_expr g.part.tree) g.keeps.first g.keeps.depth refl;
-    ready = subst (λ z. IsReady can left z) (sym e) g.ready;
-    later = subst (λ z. left_in left z < left_in left a.reader) (sym e) g.later;
-    leads = λ c. subst (λ z. Onward text steps a.reader z (at (operand (whole c))) (at (have o.level g.part (whole c))))
+    ready = subst (λ z. IsReady source.can_next source.remaining z) (sym e) g.ready;
+    later = subst (λ z. left_in source.remaining z < left_in source.remaining a.reader) (sym e) g.later;
+    leads = λ c. subst (λ z. Onward texts.text source.next_gives a.reader z (at (operand (whole c)))
+        (at (have o.level g.part (whole c))))
         (sym e) (g.leads (whole c) refl);
-    goes = λ c t h. let i = ap (λ (z : Reader X I). z.ahead) (sym e) ∙ h in whole_turn o.level g.part c (lexeme text t)
+    goes = λ c t h. let i = ap (λ (z : Reader X I). z.ahead) (sym e)
+        ∙ h in whole_turn o.level g.part c (lexeme texts.text t)
         (follow_of t.kind) (next (Over 0 o.level) r.ahead t v i) (next (Undotted o.level) r.ahead t u i);
   }
 
   -- a line whose end was read
   pub line_ended : (start st : Stmts → Block → State) (fits : Stmts → Type 0) (a b c : Parser X I) (s : RustStmt)
       (r : Result RustStmt Fault) (statement : Stmt)
-      → KeepsTree stmt_of wholes_of_stmt a.deep b.deep s statement → left_in left b.reader ≤ left_in left a.reader
-      → ((done : Stmts) (block : Block) → fits done → Onward text steps a.reader b.reader (at (start done block))
+      → KeepsTree stmt_of wholes_of_stmt a.deep b.deep s statement → left_in source.remaining b.reader ≤ left_in
+      source.remaining a.reader
+      → ((done : Stmts) (block : Block) → fits done → Onward texts.text source.next_gives a.reader b.reader
+      (at (start done block))
       (at (st done block)))
-      → ((done : Stmts) (block : Block) → fits done → LineEnds text b (st done block)
+      → ((done : Stmts) (block : Block) → fits done → LineEnds texts.text b (st done block)
       (stmts (add_stmt done statement) block))
-      → ReadsLineEnd text steps can left b c s r → ReadsFrom text steps can left start fits a c r
+      → ReadsLineEnd texts source b c s r → ReadsFrom texts source start fits a c r
   line_ended start st fits a b c s (Ok x) statement k l path ends h = record {
     statement = statement;
     keeps = record { deep = h.1.deep ∙ k.deep; kept = λ e. ap stmt_of h.0 ∙ k.kept (sym h.1.deep ∙ e) };
@@ -86,10 +90,11 @@ module _ {X I : Type 0} (text : X → List ℕ) (steps : I → Option (Result (T
   -- a statement whose beginning was read, in which nothing is too deep
   pub line_continued : (start st : Stmts → Block → State) (fits : Stmts → Type 0) (a b c : Parser X I)
       (r : Result RustStmt Fault)
-      → b.deep ≡ a.deep → left_in left b.reader ≤ left_in left a.reader
-      → ((done : Stmts) (block : Block) → fits done → Onward text steps a.reader b.reader (at (start done block))
+      → b.deep ≡ a.deep → left_in source.remaining b.reader ≤ left_in source.remaining a.reader
+      → ((done : Stmts) (block : Block) → fits done → Onward texts.text source.next_gives a.reader b.reader
+      (at (start done block))
       (at (st done block)))
-      → ReadsFrom text steps can left st (λ _. Unit {0}) b c r → ReadsFrom text steps can left start fits a c r
+      → ReadsFrom texts source st (λ _. Unit {0}) b c r → ReadsFrom texts source start fits a c r
   line_continued start st fits a b c (Ok s) d l path h = record {
     statement = h.statement;
     keeps = record { deep = h.keeps.deep ∙ ap (λ z. deep_after z (wholes_of_stmt h.statement)) d; kept = h.keeps.kept };
@@ -100,12 +105,11 @@ module _ {X I : Type 0} (text : X → List ℕ) (steps : I → Option (Result (T
   line_continued start st fits a b c (Err e) d l path h = blame
       (λ o w. λ done block f. path done block f o (w done block tt)) h
 
-module _ {X I : Type 0} (text : X → List ℕ) (steps : I → Option (Result (Token X) Fault) → I → Type 0)
-    (can : I → Type 0) (left : I → Count) where
+module _ {X I : Type 0} (texts : TextOf X) (source : TokensOf I (Result (Token X) Fault)) where
   -- the same of statements of which less is known
   pub refit : (start : Stmts → Block → State) (fits fits' : Stmts → Type 0) (a b : Parser X I)
       (r : Result RustStmt Fault) → ((done : Stmts) → fits' done → fits done)
-      → ReadsFrom text steps can left start fits a b r → ReadsFrom text steps can left start fits' a b r
+      → ReadsFrom texts source start fits a b r → ReadsFrom texts source start fits' a b r
   refit start fits fits' a b (Ok s) f h = record {
     statement = h.statement;
     keeps = h.keeps;
@@ -149,15 +153,14 @@ first_is (Some t) first begins h f = f t refl ∙ some h
     some : Some t.place ≡ Some first → t.place ≡ first
     some q = cc
 
-module _ {X I : Type 0} (text : X → List ℕ) (steps : I → Option (Result (Token X) Fault) → I → Type 0)
-    (can : I → Type 0) (left : I → Count) where
+module _ {X I : Type 0} (texts : TextOf X) (source : TokensOf I (Result (Token X) Fault)) where
   -- the suite after `else`
   pub else_read : (a b c : Parser X I) (r : Result (Vec RustStmt Global) Fault) → b.deep ≡ a.deep
-      → left_in left b.reader ≤ left_in left a.reader
+      → left_in source.remaining b.reader ≤ left_in source.remaining a.reader
       → ((bs : Branches) (site : Site) → IsAhead (kind.Keyword word.Elif) a.reader.ahead ≡ false
-      → Onward text steps a.reader b.reader (at (after_branch bs site))
+      → Onward texts.text source.next_gives a.reader b.reader (at (after_branch bs site))
       (at (suite_of (nested_in site (else_body bs)))))
-      → ReadsSuite text steps can left b c r → ReadsElse text steps can left a c r
+      → ReadsSuite texts source b c r → ReadsElse texts source a c r
   else_read a b c (Ok v) d l path h = record {
     statements = h.statements;
     keeps = record {

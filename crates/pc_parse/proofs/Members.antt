@@ -1,9 +1,10 @@
 -- Classes and their members, as the machine reads them and as the tree holds them.
+use Rattle.std.specs.declared.convert.AsStr.{Ghosts as TextOf}
+use Rattle.std.specs.declared.iter.Iterator.{Ghosts as TokensOf}
 use Rattle.std.proofs.Common.{◌≡◌, ℕ, ◌≤◌, true, false, List, [], ◌∷◌, ◌++◌, map, Option, Some, None, Result, refl}
 use Rattle.std.proofs.Common.{arith, ap, sym, ◌∙◌, subst, append_assoc}
 use Rattle.std.specs.Prelude.{Vec, codes}
 use Rattle.std.specs.declared.alloc.Global.{Global}
-use Rattle.std.specs.Iterator.{Count}
 use Rattle.std.proofs.lemmas.List.{append-nil}
 use Rattle.pc_source.specs.declared.fault.Fault.{Fault}
 use Rattle.pc_source.specs.declared.place.Place.{Place}
@@ -25,11 +26,10 @@ use Rattle.pc_tree.specs.Depth.{whole_ann, wholes_of_def, wholes_of_members}
 use Rattle.pc_grammar.specs.Grammar.{name_of_token}
 use Rattle.pc_grammar.specs.Machine.{Reading, at, transition, stop, short}
 use Rattle.pc_grammar.specs.Machine.Kinds.{same_kind, a_kind}
-use Rattle.pc_grammar.specs.Machine.States.{after_headers, Top, ClassStart, of_class, AnnotationPosition, of_field}
+use Rattle.pc_grammar.specs.Machine.States.{Top, ClassStart, of_class, AnnotationPosition, of_field}
 use Rattle.pc_grammar.specs.Machine.States.{LiteralContext, default_of_field, ann_whole, State, fixed, items}
 use Rattle.pc_grammar.specs.Machine.States.{decorator_due, class_due, class_named, base_due, members, def_due}
-use Rattle.pc_grammar.specs.Machine.States.{literal_due}
-use Rattle.pc_grammar.specs.Machine.States.{part_due, Transition, stuck, go, on}
+use Rattle.pc_grammar.specs.Machine.States.{part_due, Transition, stuck, on}
 use Rattle.pc_grammar.specs.Machine.Finishing.{field, finish_ann, after_class}
 use Rattle.pc_grammar.specs.Machine.Lines.{due, members_end}
 use Rattle.pc_reader.specs.declared.reader.Reader.{Reader}
@@ -116,72 +116,74 @@ module _ {X I : Type 0} (text : X → List ℕ) (steps : I → Option (Result (T
         (class_due first t.place top)) stuck) e;
   }
 
-module _ {X I : Type 0} {text : X → List ℕ} {steps : I → Option (Result (Token X) Fault) → I → Type 0}
-    {can : I → Type 0} {left : I → Count} where
+module _ {X I : Type 0} {texts : TextOf X} {source : TokensOf I (Result (Token X) Fault)} where
   -- ---- fields
 
-  module _ (a : Parser X I) {m : Reader X I} {name : RustName} (n : GivesName text steps can left a.reader m name) where
-    named : (c : ClassStart) (ms : List Member) → Onward text steps a.reader m (at (members c ms))
+  module _ (a : Parser X I) {m : Reader X I} {name : RustName} (n : GivesName texts source a.reader m name) where
+    named : (c : ClassStart) (ms : List Member) → Onward texts.text source.next_gives a.reader m (at (members c ms))
         (at (fixed (a_kind (kind.Operator sign.Colon)) [] (part_due no_anns []
-        (ann_whole (of_field c ms (name_of_token (lexeme text n.token)))))))
+        (ann_whole (of_field c ms (name_of_token (lexeme texts.text n.token)))))))
     named c ms = step_to (members c ms) (fixed (a_kind (kind.Operator sign.Colon)) []
-        (part_due no_anns [] (ann_whole (of_field c ms (name_of_token (lexeme text n.token)))))) n.takes
-        (ap (transition (members c ms) (lexeme text n.token)) n.is)
+        (part_due no_anns [] (ann_whole (of_field c ms (name_of_token (lexeme texts.text n.token)))))) n.takes
+        (ap (transition (members c ms) (lexeme texts.text n.token)) n.is)
 
-    pub colon_missing : {e : Fault} → Blames e (λ o. (st : State) → NeedsKind text (kind.Operator sign.Colon) st m
-        → Came text steps m (at st) o)
+    pub colon_missing : {e : Fault} → Blames e (λ o. (st : State) → NeedsKind texts.text (kind.Operator sign.Colon) st m
+        → Came texts.text source.next_gives m (at st) o)
         → Blames e (λ o. (c : ClassStart) (ms : List Member) → IsAhead (kind.Keyword word.Def) a.reader.ahead ≡ false
-        → GoOn a.reader c ms → Came text steps a.reader (at (members c ms)) o)
+        → GoOn a.reader c ms → Came texts.text source.next_gives a.reader (at (members c ms)) o)
     colon_missing w =
         blame
         (λ o u. λ c ms d g. named c ms o
         (u (fixed (a_kind (kind.Operator sign.Colon)) [] (part_due no_anns []
-        (ann_whole (of_field c ms (name_of_token (lexeme text n.token))))))
+        (ann_whole (of_field c ms (name_of_token (lexeme texts.text n.token))))))
         (kind_due (kind.Operator sign.Colon) [] (part_due no_anns []
-        (ann_whole (of_field c ms (name_of_token (lexeme text n.token)))))))) w
+        (ann_whole (of_field c ms (name_of_token (lexeme texts.text n.token)))))))) w
 
-    module _ {p : Reader X I} {t : Token X} (h : Takes text steps can left m p t)
+    module _ {p : Reader X I} {t : Token X} (h : Takes texts source m p t)
         (k : t.kind ≡ kind.Operator sign.Colon) where
-      annotated : (c : ClassStart) (ms : List Member) → Onward text steps a.reader p (at (members c ms))
-          (at (part_due no_anns [] (ann_whole (of_field c ms (name_of_token (lexeme text n.token))))))
+      annotated : (c : ClassStart) (ms : List Member) → Onward texts.text source.next_gives a.reader p
+          (at (members c ms))
+          (at (part_due no_anns [] (ann_whole (of_field c ms (name_of_token (lexeme texts.text n.token))))))
       annotated c ms o y = named c ms o (kind_read (kind.Operator sign.Colon) h k []
-          (part_due no_anns [] (ann_whole (of_field c ms (name_of_token (lexeme text n.token))))) o y)
+          (part_due no_anns [] (ann_whole (of_field c ms (name_of_token (lexeme texts.text n.token))))) o y)
 
       pub field_annotation_fails : {e : Fault} → Blames e (λ o. (i : AnnotationPosition)
-          → Came text steps p (at (part_due no_anns [] (ann_whole i))) o)
+          → Came texts.text source.next_gives p (at (part_due no_anns [] (ann_whole i))) o)
           → Blames e (λ o. (c : ClassStart) (ms : List Member) → IsAhead (kind.Keyword word.Def) a.reader.ahead ≡ false
-          → GoOn a.reader c ms → Came text steps a.reader (at (members c ms)) o)
+          → GoOn a.reader c ms → Came texts.text source.next_gives a.reader (at (members c ms)) o)
       field_annotation_fails w = blame (λ o u. λ c ms d g. annotated c ms o
-          (u (of_field c ms (name_of_token (lexeme text n.token))))) w
+          (u (of_field c ms (name_of_token (lexeme texts.text n.token))))) w
 
-      module _ {q b : Parser X I} {ann : RustAnn} (same : q.reader ≡ p) (x : GivesAnn text steps can left q b ann) where
-        behind : (c : ClassStart) (ms : List Member) → LeadsTo text steps p b.reader
-            (part_due no_anns [] (ann_whole (of_field c ms (name_of_token (lexeme text n.token)))))
-            (finish_ann (of_field c ms (name_of_token (lexeme text n.token))) x.annotation)
-        behind c ms = let i = of_field c ms (name_of_token (lexeme text n.token)) in record {
+      module _ {q b : Parser X I} {ann : RustAnn} (same : q.reader ≡ p) (x : GivesAnn texts source q b ann) where
+        behind : (c : ClassStart) (ms : List Member) → LeadsTo texts.text source.next_gives p b.reader
+            (part_due no_anns [] (ann_whole (of_field c ms (name_of_token (lexeme texts.text n.token)))))
+            (finish_ann (of_field c ms (name_of_token (lexeme texts.text n.token))) x.annotation)
+        behind c ms = let i = of_field c ms (name_of_token (lexeme texts.text n.token)) in record {
           behind = x.behind i;
           stands = record { unfinished = x.unfinished i; goes = x.goes i };
-          leads = λ o y. subst (λ z. Came text steps z (at (part_due no_anns [] (ann_whole i))) o) same (x.leads i o y);
+          leads = λ o y. subst (λ z. Came texts.text source.next_gives z (at (part_due no_anns [] (ann_whole i))) o)
+              same (x.leads i o y);
         }
 
         pub field_default_fails : {e : Fault} → Blames e (λ o. (st : State) (i : LiteralContext)
-            (other : TokenKind → Transition) → StandsBefore text b.reader st (opens_literal i other)
-            → Came text steps b.reader (at st) o)
+            (other : TokenKind → Transition) → StandsBefore texts.text b.reader st (opens_literal i other)
+            → Came texts.text source.next_gives b.reader (at st) o)
             → Blames e (λ o. (c : ClassStart) (ms : List Member) → IsAhead (kind.Keyword word.Def) a.reader.ahead
-            ≡ false → GoOn a.reader c ms → Came text steps a.reader (at (members c ms)) o)
-        field_default_fails w = blame (λ o u. λ c ms d g. let N = name_of_token (lexeme text n.token) in let r =
+            ≡ false → GoOn a.reader c ms → Came texts.text source.next_gives a.reader (at (members c ms)) o)
+        field_default_fails w = blame (λ o u. λ c ms d g. let N = name_of_token (lexeme texts.text n.token) in let r =
             behind c ms in
             annotated c ms o (r.leads o (u r.behind (default_of_field c ms N x.annotation)
             (λ i. on (same_kind i kind.Newline) (members c (ms ++ (field N x.annotation None ∷ []))) stuck)
             r.stands))) w
 
-        module _ {f : Reader X I} {l : Option RustLiteral} (y : GivesDefault text steps can left b.reader f l) where
-          ended_line : (c : ClassStart) (ms : List Member) → LeadsTo text steps p f
-              (part_due no_anns [] (ann_whole (of_field c ms (name_of_token (lexeme text n.token)))))
+        module _ {f : Reader X I} {l : Option RustLiteral} (y : GivesDefault texts source b.reader f l) where
+          ended_line : (c : ClassStart) (ms : List Member) → LeadsTo texts.text source.next_gives p f
+              (part_due no_anns [] (ann_whole (of_field c ms (name_of_token (lexeme texts.text n.token)))))
               (λ k. on (same_kind k kind.Newline)
-              (members c (ms ++ (field (name_of_token (lexeme text n.token)) x.annotation (option_literal_of l) ∷ [])))
+              (members c (ms ++ (field (name_of_token (lexeme texts.text n.token)) x.annotation (option_literal_of l)
+              ∷ [])))
               stuck)
-          ended_line c ms = let N = name_of_token (lexeme text n.token) in let r = behind c ms in
+          ended_line c ms = let N = name_of_token (lexeme texts.text n.token) in let r = behind c ms in
               let z = y.leads r.behind (default_of_field c ms N x.annotation)
               (λ i. on (same_kind i kind.Newline) (members c (ms ++ (field N x.annotation None ∷ []))) stuck)
               r.stands in
@@ -189,22 +191,23 @@ module _ {X I : Type 0} {text : X → List ℕ} {steps : I → Option (Result (T
               (members c (ms ++ (field N x.annotation (option_literal_of l) ∷ []))) stuck) z
               (λ t h. literal_behind c ms N x.annotation (option_literal_of l) t.kind))
 
-          pub line_end_missing : {e : Fault} → Blames e (λ o. (st : State) → NeedsKind text kind.Newline st f
-              → Came text steps f (at st) o)
+          pub line_end_missing : {e : Fault} → Blames e (λ o. (st : State) → NeedsKind texts.text kind.Newline st f
+              → Came texts.text source.next_gives f (at st) o)
               → Blames e (λ o. (c : ClassStart) (ms : List Member) → IsAhead (kind.Keyword word.Def) a.reader.ahead
-              ≡ false → GoOn a.reader c ms → Came text steps a.reader (at (members c ms)) o)
+              ≡ false → GoOn a.reader c ms → Came texts.text source.next_gives a.reader (at (members c ms)) o)
           line_end_missing w = blame (λ o u. λ c ms d g. let r = ended_line c ms in
               annotated c ms o
               (r.leads o
               (u r.behind
               (awaits kind.Newline
-              (members c (ms ++ (field (name_of_token (lexeme text n.token)) x.annotation (option_literal_of l) ∷ [])))
+              (members c (ms ++ (field (name_of_token (lexeme texts.text n.token)) x.annotation (option_literal_of l)
+              ∷ [])))
               r.stands (λ t h. refl))))) w
 
           pub field_read : {s : Parser X I} {v : Token X} → q.deep ≡ a.deep → s.deep ≡ b.deep
-              → Takes text steps can left f s.reader v → v.kind ≡ kind.Newline
-              → GivesField text steps can left a s (record { name = name; annotation = ann; default = l })
-          field_read {s = s} {v = v} qa sb j i = let N = name_of_token (lexeme text n.token) in
+              → Takes texts source f s.reader v → v.kind ≡ kind.Newline
+              → GivesField texts source a s (record { name = name; annotation = ann; default = l })
+          field_read {s = s} {v = v} qa sb j i = let N = name_of_token (lexeme texts.text n.token) in
               let make : Name → Ann → Field = λ e z. record {
                 name = e;
                 annotation = z;
@@ -217,7 +220,16 @@ module _ {X I : Type 0} {text : X → List ℕ} {steps : I → Option (Result (T
                   kept = λ e. ap (λ z. make z (ann_of ann)) n.name ∙ ap (make N) (x.keeps.kept (sym sb ∙ e));
                 };
                 ready = j.ready;
-                later = omega (arith, j.later, y.later, x.later, h.later, n.takes.later, ap (left_in left) same);
+                later = omega (
+                  arith,
+                  j.later,
+                  y.later,
+                  x.later,
+                  h.later,
+                  n.takes.later,
+                  ap (left_in source.remaining)
+                      same,
+                );
                 leads = λ c ms o z. annotated c ms o
                     (reaches_to (members c (ms ++ (field N x.annotation (option_literal_of l) ∷ []))) (ended_line c ms)
                     j (takes kind.Newline v.kind (members c (ms ++ (field N x.annotation (option_literal_of l) ∷ [])))
@@ -226,8 +238,8 @@ module _ {X I : Type 0} {text : X → List ℕ} {steps : I → Option (Result (T
 
   -- ---- members
 
-  pub field_as_member : {a b : Parser X I} {f : RustField} → GivesField text steps can left a b f
-      → GivesMember text steps can left a b (rust.Field f)
+  pub field_as_member : {a b : Parser X I} {f : RustField} → GivesField texts source a b f
+      → GivesMember texts source a b (rust.Field f)
   field_as_member x = record {
     member = field_member x.field;
     keeps = record { deep = x.keeps.deep; kept = λ e. ap field_member (x.keeps.kept e) };
@@ -236,17 +248,19 @@ module _ {X I : Type 0} {text : X → List ℕ} {steps : I → Option (Result (T
     leads = x.leads;
   }
 
-  pub method_fails : {a m : Reader X I} {t : Token X} {e : Fault} → Takes text steps can left a m t
+  pub method_fails : {a m : Reader X I} {t : Token X} {e : Fault} → Takes texts source a m t
       → t.kind ≡ kind.Keyword word.Def
       → Blames e (λ o. (owner : Rattle.pc_grammar.specs.Machine.States.FunctionOwner) (first : Place)
-      → Rattle.pc_grammar.specs.Fronts.Lines.is_method owner ≡ true → Came text steps m (at (def_due owner first)) o)
-      → Blames e (λ o. (c : ClassStart) (ms : List Member) → GoOn a c ms → Came text steps a (at (members c ms)) o)
+      → Rattle.pc_grammar.specs.Fronts.Lines.is_method owner ≡ true
+      → Came texts.text source.next_gives m (at (def_due owner first)) o)
+      → Blames e (λ o. (c : ClassStart) (ms : List Member) → GoOn a c ms
+      → Came texts.text source.next_gives a (at (members c ms)) o)
   method_fails {t = t} h k w = blame (λ o u. λ c ms g. step_to (members c ms) (def_due (of_class c ms) t.place) h
-      (ap (transition (members c ms) (lexeme text t)) k) o (u (of_class c ms) t.place refl)) w
+      (ap (transition (members c ms) (lexeme texts.text t)) k) o (u (of_class c ms) t.place refl)) w
 
   pub method_as_member : (a p : Parser X I) {b : Parser X I} {t : Token X} {f : RustFuncDef}
-      → Takes text steps can left a.reader p.reader t → t.kind ≡ kind.Keyword word.Def → p.deep ≡ a.deep
-      → GivesFunction text steps can left true p b f → GivesMember text steps can left a b (rust.Method f)
+      → Takes texts source a.reader p.reader t → t.kind ≡ kind.Keyword word.Def → p.deep ≡ a.deep
+      → GivesFunction texts source true p b f → GivesMember texts source a b (rust.Method f)
   method_as_member a p {b = b} {t = t} h k same x = record {
     member = method_member x.function;
     keeps = record {
@@ -257,13 +271,13 @@ module _ {X I : Type 0} {text : X → List ℕ} {steps : I → Option (Result (T
     ready = x.ready;
     later = omega (arith, x.later, h.later);
     leads = λ c ms o y. step_to (members c ms) (def_due (of_class c ms) t.place) h
-        (ap (transition (members c ms) (lexeme text t)) k) o (x.leads (of_class c ms) t.place refl o y);
+        (ap (transition (members c ms) (lexeme texts.text t)) k) o (x.leads (of_class c ms) t.place refl o y);
   }
 
   -- ---- lists of members
 
   pub no_members : (a : Parser X I) {v : Vec RustMember Global} → v.items ≡ []
-      → IsAhead (kind.Keyword word.Pass) a.reader.ahead ≡ false → MembersSoFar text steps can left a a v
+      → IsAhead (kind.Keyword word.Pass) a.reader.ahead ≡ false → MembersSoFar texts source a a v
   no_members a e p = record {
     all = [];
     keeps = kept_none member_of wholes_of_members refl a.deep e;
@@ -272,27 +286,27 @@ module _ {X I : Type 0} {text : X → List ℕ} {steps : I → Option (Result (T
     leads = λ c o y. y;
   }
 
-  module _ {a m : Parser X I} {v : Vec RustMember Global} (s : MembersSoFar text steps can left a m v) where
+  module _ {a m : Parser X I} {v : Vec RustMember Global} (s : MembersSoFar texts source a m v) where
     pub member_fails : {e : Fault} → Blames e (λ o. (c : ClassStart) (ms : List Member) → GoOn m.reader c ms
-        → Came text steps m.reader (at (members c ms)) o) → Blames e (λ o. (c : ClassStart)
-        → Came text steps a.reader (at (members c [])) o)
+        → Came texts.text source.next_gives m.reader (at (members c ms)) o) → Blames e (λ o. (c : ClassStart)
+        → Came texts.text source.next_gives a.reader (at (members c [])) o)
     member_fails w = blame (λ o u. λ c. s.leads c o (u c s.all (s.goes_on c))) w
 
-    module _ {q : Parser X I} {r : RustMember} (x : GivesMember text steps can left m q r) where
+    module _ {q : Parser X I} {r : RustMember} (x : GivesMember texts source m q r) where
       pub dedent_fails : {e : Fault} → Blames e (λ o. (z : Reading) → (q.reader.ahead ≡ None → stop z ≡ short)
-          → Came text steps q.reader z o) → Blames e (λ o. (c : ClassStart)
-          → Came text steps a.reader (at (members c [])) o)
+          → Came texts.text source.next_gives q.reader z o) → Blames e (λ o. (c : ClassStart)
+          → Came texts.text source.next_gives a.reader (at (members c [])) o)
       dedent_fails w =
           blame
           (λ o u. λ c. s.leads c o (x.leads c s.all o (u (at (members c (s.all ++ (x.member ∷ [])))) (λ z. refl)))) w
 
-    module _ {q : Parser X I} {r : RustMember} (x : GivesMember text steps can left m q r) {v' : Vec RustMember Global}
+    module _ {q : Parser X I} {r : RustMember} (x : GivesMember texts source m q r) {v' : Vec RustMember Global}
         (push : v'.items ≡ v.items ++ (r ∷ [])) where
       kept : KeepsTree (λ (w : Vec RustMember Global). map member_of w.items) wholes_of_members a.deep q.deep v'
           (s.all ++ (x.member ∷ []))
       kept = kept_more member_of (λ p. wholes_of_members (p ∷ [])) wholes_of_members members_split push s.keeps x.keeps
 
-      pub more_members : IsAhead kind.Dedent q.reader.ahead ≡ false → MembersSoFar text steps can left a q v'
+      pub more_members : IsAhead kind.Dedent q.reader.ahead ≡ false → MembersSoFar texts source a q v'
       more_members e = record {
         all = s.all ++ (x.member ∷ []);
         keeps = kept;
@@ -301,9 +315,10 @@ module _ {X I : Type 0} {text : X → List ℕ} {steps : I → Option (Result (T
         leads = λ c o y. s.leads c o (x.leads c s.all o y);
       }
 
-      pub last_member : {b : Parser X I} {t : Token X} → Takes text steps can left q.reader b.reader t
-          → t.kind ≡ kind.Dedent → b.deep ≡ q.deep → left_in left m.reader ≤ left_in left a.reader
-          → GivesMembers text steps can left a b v'
+      pub last_member : {b : Parser X I} {t : Token X} → Takes texts source q.reader b.reader t
+          → t.kind ≡ kind.Dedent → b.deep ≡ q.deep → left_in source.remaining m.reader ≤ left_in source.remaining
+          a.reader
+          → GivesMembers texts source a b v'
       last_member {b = b} {t = t} h k same later = record {
         all = s.all ++ (x.member ∷ []);
         keeps = subst (λ z. KeepsTree (λ (w : Vec RustMember Global). map member_of w.items) wholes_of_members a.deep z
@@ -312,30 +327,30 @@ module _ {X I : Type 0} {text : X → List ℕ} {steps : I → Option (Result (T
         later = omega (arith, h.later, x.later, later);
         leads = λ c o y. s.leads c o (x.leads c s.all o (step_to (members c (s.all ++ (x.member ∷ [])))
             (after_class c (s.all ++ (x.member ∷ []))) h
-            (ap (transition (members c (s.all ++ (x.member ∷ []))) (lexeme text t)) k
+            (ap (transition (members c (s.all ++ (x.member ∷ []))) (lexeme texts.text t)) k
             ∙ ends_some c s.all x.member kind.Dedent) o y));
       }
 
   -- ---- the beginning of a class
 
   pub no_base : {a b : Reader X I} → IsAhead (kind.Operator sign.LeftParenthesis) a.ahead ≡ false
-      → GivesFixed text steps can left (a_kind (kind.Operator sign.Colon) ∷ a_kind kind.Newline ∷ a_kind kind.Indent
-      ∷ []) a b → GivesBase text steps can left a b None
+      → GivesFixed texts source (a_kind (kind.Operator sign.Colon) ∷ a_kind kind.Newline ∷ a_kind kind.Indent
+      ∷ []) a b → GivesBase texts source a b None
   no_base {a = a} {b = b} e x = record {
     ready = x.ready;
     later = x.later;
-    leads = λ c q o y. unbased text steps a e c o (x.leads (members c []) o
-        (subst (λ z. Came text steps b (at (members (record c { base = z }) [])) o) (sym q) y));
+    leads = λ c q o y. unbased texts.text source.next_gives a e c o (x.leads (members c []) o
+        (subst (λ z. Came texts.text source.next_gives b (at (members (record c { base = z }) [])) o) (sym q) y));
   }
 
-  module _ {a m : Reader X I} {t : Token X} (h : Takes text steps can left a m t)
+  module _ {a m : Reader X I} {t : Token X} (h : Takes texts source a m t)
       (k : t.kind ≡ kind.Operator sign.LeftParenthesis) where
-    opened : (c : ClassStart) → Onward text steps a m (at (class_named c)) (at (base_due c))
-    opened c = step_to (class_named c) (base_due c) h (ap (transition (class_named c) (lexeme text t)) k)
+    opened : (c : ClassStart) → Onward texts.text source.next_gives a m (at (class_named c)) (at (base_due c))
+    opened c = step_to (class_named c) (base_due c) h (ap (transition (class_named c) (lexeme texts.text t)) k)
 
-    pub base_fails : {e : Fault} → Blames e (λ o. (st : State) → NeedsKind text kind.Name st m
-        → Came text steps m (at st) o) → Blames e (λ o. (c : ClassStart) → c.base ≡ None
-        → Came text steps a (at (class_named c)) o)
+    pub base_fails : {e : Fault} → Blames e (λ o. (st : State) → NeedsKind texts.text kind.Name st m
+        → Came texts.text source.next_gives m (at st) o) → Blames e (λ o. (c : ClassStart) → c.base ≡ None
+        → Came texts.text source.next_gives a (at (class_named c)) o)
     base_fails w =
         blame
         (λ o u. λ c q. opened c o
@@ -343,28 +358,31 @@ module _ {X I : Type 0} {text : X → List ℕ} {steps : I → Option (Result (T
         (a_kind (kind.Operator sign.Colon) ∷ a_kind kind.Newline ∷ a_kind kind.Indent ∷ [])
         (members (record c { base = Some (name_of_token t) }) [])) refl (λ t i. refl)))) w
 
-    module _ {p : Reader X I} {name : RustName} (n : GivesName text steps can left m p name) where
-      based : (c : ClassStart) → Onward text steps a p (at (class_named c))
+    module _ {p : Reader X I} {name : RustName} (n : GivesName texts source m p name) where
+      based : (c : ClassStart) → Onward texts.text source.next_gives a p (at (class_named c))
           (at (fixed (a_kind (kind.Operator sign.RightParenthesis))
           (a_kind (kind.Operator sign.Colon) ∷ a_kind kind.Newline ∷ a_kind kind.Indent ∷ [])
           (members (record c { base = Some (name_of name) }) [])))
       based c o y = let rest : State → State = λ next. fixed (a_kind (kind.Operator sign.RightParenthesis))
           (a_kind (kind.Operator sign.Colon) ∷ a_kind kind.Newline ∷ a_kind kind.Indent ∷ []) next in
           opened c o
-          (step_to (base_due c) (rest (members (record c { base = Some (name_of_token (lexeme text n.token)) }) []))
-          n.takes (ap (transition (base_due c) (lexeme text n.token)) n.is) o
-          (subst (λ z. Came text steps p (at (rest (members (record c { base = Some z }) []))) o) n.name y))
+          (step_to (base_due c) (rest (members (record c { base = Some (name_of_token (lexeme texts.text n.token)) })
+          []))
+          n.takes (ap (transition (base_due c) (lexeme texts.text n.token)) n.is) o
+          (subst (λ z. Came texts.text source.next_gives p (at (rest (members (record c { base = Some z }) []))) o)
+          n.name y))
 
       pub base_unclosed : {e : Fault} → Blames e (λ o. (next : State)
-          → Came text steps p
+          → Came texts.text source.next_gives p
           (at (due (a_kind (kind.Operator sign.RightParenthesis) ∷ a_kind (kind.Operator sign.Colon)
           ∷ a_kind kind.Newline ∷ a_kind kind.Indent ∷ []) next)) o)
-          → Blames e (λ o. (c : ClassStart) → c.base ≡ None → Came text steps a (at (class_named c)) o)
+          → Blames e (λ o. (c : ClassStart) → c.base ≡ None → Came texts.text source.next_gives a (at (class_named c))
+          o)
       base_unclosed w = blame (λ o u. λ c q. based c o (u (members (record c { base = Some (name_of name) }) []))) w
 
-      pub base_read : {b : Reader X I} → GivesFixed text steps can left
+      pub base_read : {b : Reader X I} → GivesFixed texts source
           (a_kind (kind.Operator sign.RightParenthesis) ∷ a_kind (kind.Operator sign.Colon) ∷ a_kind kind.Newline
-          ∷ a_kind kind.Indent ∷ []) p b → GivesBase text steps can left a b (Some name)
+          ∷ a_kind kind.Indent ∷ []) p b → GivesBase texts source a b (Some name)
       base_read x = record {
         ready = x.ready;
         later = omega (arith, x.later, n.takes.later, h.later);
@@ -373,9 +391,10 @@ module _ {X I : Type 0} {text : X → List ℕ} {steps : I → Option (Result (T
 
   -- ---- classes
 
-  module _ (a : Parser X I) {m : Reader X I} {t : Token X} (f : TakesForm text steps can left (codes "dataclass")
+  module _ (a : Parser X I) {m : Reader X I} {t : Token X} (f : TakesForm texts source (codes "dataclass")
       a.reader m t) where
-    decorated : (first : Place) (top : Top) → Onward text steps a.reader m (at (decorator_due first top))
+    decorated : (first : Place) (top : Top) → Onward texts.text source.next_gives a.reader m
+        (at (decorator_due first top))
         (at (fixed (a_kind kind.Newline) (a_kind (kind.Keyword word.Class) ∷ []) (class_due first t.place top)))
     decorated first top = step_to (decorator_due first top) (fixed (a_kind kind.Newline)
         (a_kind (kind.Keyword word.Class) ∷ []) (class_due first t.place top)) f.takes
@@ -383,15 +402,17 @@ module _ {X I : Type 0} {text : X → List ℕ} {steps : I → Option (Result (T
         (class_due first t.place top)) stuck) f.is)
 
     pub class_word_missing : {e : Fault} → Blames e (λ o. (next : State)
-        → Came text steps m (at (due (a_kind kind.Newline ∷ a_kind (kind.Keyword word.Class) ∷ []) next)) o)
-        → Blames e (λ o. (first : Place) (top : Top) → Came text steps a.reader (at (decorator_due first top)) o)
+        → Came texts.text source.next_gives m (at (due (a_kind kind.Newline ∷ a_kind (kind.Keyword word.Class) ∷ [])
+        next)) o)
+        → Blames e (λ o. (first : Place) (top : Top) → Came texts.text source.next_gives a.reader
+        (at (decorator_due first top)) o)
     class_word_missing w = blame (λ o u. λ first top. decorated first top o (u (class_due first t.place top))) w
 
-    module _ {p : Reader X I} (x : GivesFixed text steps can left
+    module _ {p : Reader X I} (x : GivesFixed texts source
         (a_kind kind.Newline ∷ a_kind (kind.Keyword word.Class) ∷ []) m p) where
-      pub class_name_missing : {e : Fault} → Blames e (λ o. (st : State) → NeedsKind text kind.Name st p
-          → Came text steps p (at st) o) → Blames e (λ o. (first : Place) (top : Top)
-          → Came text steps a.reader (at (decorator_due first top)) o)
+      pub class_name_missing : {e : Fault} → Blames e (λ o. (st : State) → NeedsKind texts.text kind.Name st p
+          → Came texts.text source.next_gives p (at st) o) → Blames e (λ o. (first : Place) (top : Top)
+          → Came texts.text source.next_gives a.reader (at (decorator_due first top)) o)
       class_name_missing w = blame (λ o u. λ first top. decorated first top o (x.leads (class_due first t.place top) o
           (u (class_due first t.place top)
           (needs (λ v. class_named (record {
@@ -403,14 +424,15 @@ module _ {X I : Type 0} {text : X → List ℕ} {steps : I → Option (Result (T
                 None;
           })) refl (λ v i. refl))))) w
 
-      module _ {q : Reader X I} {name : RustName} (n : GivesName text steps can left p q name) where
-        named_class : (first : Place) (top : Top) → Onward text steps a.reader q (at (decorator_due first top))
+      module _ {q : Reader X I} {name : RustName} (n : GivesName texts source p q name) where
+        named_class : (first : Place) (top : Top) → Onward texts.text source.next_gives a.reader q
+            (at (decorator_due first top))
             (at (class_named (record {
               top = top;
               first = first;
               decorator = t.place;
               name =
-                  name_of_token (lexeme text n.token);
+                  name_of_token (lexeme texts.text n.token);
               base = None;
             })))
         named_class first top o y = decorated first top o (x.leads (class_due first t.place top) o
@@ -420,42 +442,43 @@ module _ {X I : Type 0} {text : X → List ℕ} {steps : I → Option (Result (T
               first = first;
               decorator = t.place;
               name =
-                  name_of_token (lexeme text n.token);
+                  name_of_token (lexeme texts.text n.token);
               base = None;
             })) n.takes
-            (ap (transition (class_due first t.place top) (lexeme text n.token)) n.is) o y))
+            (ap (transition (class_due first t.place top) (lexeme texts.text n.token)) n.is) o y))
 
         pub class_base_fails : {e : Fault} → Blames e (λ o. (c : ClassStart) → c.base ≡ None
-            → Came text steps q (at (class_named c)) o) → Blames e (λ o. (first : Place) (top : Top)
-            → Came text steps a.reader (at (decorator_due first top)) o)
+            → Came texts.text source.next_gives q (at (class_named c)) o) → Blames e (λ o. (first : Place) (top : Top)
+            → Came texts.text source.next_gives a.reader (at (decorator_due first top)) o)
         class_base_fails w = blame (λ o u. λ first top. named_class first top o
             (u (record {
               top = top;
               first = first;
               decorator = t.place;
-              name = name_of_token (lexeme text n.token);
+              name = name_of_token (lexeme texts.text n.token);
               base =
                   None;
             }) refl)) w
 
-        module _ (r : Parser X I) {base : Option RustName} (z : GivesBase text steps can left q r.reader base) where
+        module _ (r : Parser X I) {base : Option RustName} (z : GivesBase texts source q r.reader base) where
           pub class_members_fail : {e : Fault} → Blames e (λ o. (c : ClassStart)
-              → Came text steps r.reader (at (members c [])) o) → Blames e (λ o. (first : Place) (top : Top)
-              → Came text steps a.reader (at (decorator_due first top)) o)
+              → Came texts.text source.next_gives r.reader (at (members c [])) o)
+              → Blames e (λ o. (first : Place) (top : Top)
+              → Came texts.text source.next_gives a.reader (at (decorator_due first top)) o)
           class_members_fail w = blame (λ o u. λ first top. let c : ClassStart =
               record {
                 top = top;
                 first = first;
                 decorator = t.place;
-                name = name_of_token (lexeme text n.token);
+                name = name_of_token (lexeme texts.text n.token);
                 base =
                     None;
               } in
               named_class first top o (z.leads c refl o (u (with_base c base)))) w
 
           pub class_read : {b : Parser X I} {v : Vec RustMember Global} → r.deep ≡ a.deep
-              → GivesMembers text steps can left r b v
-              → GivesClass text steps can left a b (record {
+              → GivesMembers texts source r b v
+              → GivesClass texts source a b (record {
                 decorator = t.place;
                 name = name;
                 base = base;
@@ -470,11 +493,11 @@ module _ {X I : Type 0} {text : X → List ℕ} {steps : I → Option (Result (T
                     option_name_of base;
                 members = ms;
               } in record {
-                class = make (name_of_token (lexeme text n.token)) y.all;
+                class = make (name_of_token (lexeme texts.text n.token)) y.all;
                 keeps = record {
                   deep = subst (λ i. b.deep ≡ deep_after i (wholes_of_members y.all)) same y.keeps.deep;
                   kept = λ e. ap (λ i. make i (map member_of v.items)) n.name
-                      ∙ ap (make (name_of_token (lexeme text n.token))) (y.keeps.kept e);
+                      ∙ ap (make (name_of_token (lexeme texts.text n.token))) (y.keeps.kept e);
                 };
                 ready = y.ready;
                 later = omega (arith, y.later, z.later, n.takes.later, x.later, f.takes.later);
@@ -482,7 +505,7 @@ module _ {X I : Type 0} {text : X → List ℕ} {steps : I → Option (Result (T
                   top = top;
                   first = first;
                   decorator = t.place;
-                  name = name_of_token (lexeme text n.token);
+                  name = name_of_token (lexeme texts.text n.token);
                   base = None;
                 } in
                     named_class first top o (z.leads c refl o (y.leads (with_base c base) o i));

@@ -1,9 +1,10 @@
 -- Parameters, as the machine reads them and as the tree holds them.
+use Rattle.std.specs.declared.convert.AsStr.{Ghosts as TextOf}
+use Rattle.std.specs.declared.iter.Iterator.{Ghosts as TokensOf}
 use Rattle.std.proofs.Common.{◌≡◌, ℕ, ◌≤◌, false, List, [], ◌∷◌, ◌++◌, map, Option, Some, None, Result, refl, arith, ap}
 use Rattle.std.proofs.Common.{sym, ◌∙◌, subst, append_assoc}
 use Rattle.std.specs.Prelude.{Vec}
 use Rattle.std.specs.declared.alloc.Global.{Global}
-use Rattle.std.specs.Iterator.{Count}
 use Rattle.std.proofs.lemmas.List.{append-nil}
 use Rattle.pc_source.specs.declared.fault.Fault.{Fault}
 use Rattle.pc_token.specs.declared.token.Token.{Token}
@@ -103,10 +104,9 @@ module _ {X I : Type 0} (text : X → List ℕ) (steps : I → Option (Result (T
         ∙ passes _ (params_read d ps) stuck (not_seen (kind.Operator sign.RightParenthesis) p h);
   })) w
 
-module _ {X I : Type 0} {text : X → List ℕ} {steps : I → Option (Result (Token X) Fault) → I → Type 0}
-    {can : I → Type 0} {left : I → Count} where
-  pub no_annotation : (opener : Opener) (a : Parser X I) → IsReady can left a.reader
-      → IsAhead (kind.Operator opener) a.reader.ahead ≡ false → GivesOpened text steps can left opener a a None
+module _ {X I : Type 0} {texts : TextOf X} {source : TokensOf I (Result (Token X) Fault)} where
+  pub no_annotation : (opener : Opener) (a : Parser X I) → IsReady source.can_next source.remaining a.reader
+      → IsAhead (kind.Operator opener) a.reader.ahead ≡ false → GivesOpened texts source opener a a None
   no_annotation opener a d e = record {
     annotation = None;
     keeps = record { deep = sym (noted_nothing a.deep); kept = λ q. refl };
@@ -117,17 +117,18 @@ module _ {X I : Type 0} {text : X → List ℕ} {steps : I → Option (Result (T
   }
 
   pub annotation_fails : (opener : Opener) {a m : Reader X I} {t : Token X} {e : Fault}
-      → Takes text steps can left a m t → t.kind ≡ kind.Operator opener
-      → Blames e (λ o. (c : AnnotationPosition) → Came text steps m (at (part_due no_anns [] (ann_whole c))) o)
+      → Takes texts source a m t → t.kind ≡ kind.Operator opener
+      → Blames e (λ o. (c : AnnotationPosition) → Came texts.text source.next_gives m
+      (at (part_due no_anns [] (ann_whole c))) o)
       → Blames e (λ o. (st : State) (c : AnnotationPosition) (other : TokenKind → Transition)
-      → StandsBefore text a st (opens_ann opener c other) → Came text steps a (at st) o)
+      → StandsBefore texts.text a st (opens_ann opener c other) → Came texts.text source.next_gives a (at st) o)
   annotation_fails opener {t = t} h k w = blame (λ o u. λ st c other x. goes_to (part_due no_anns [] (ann_whole c)) x h
       (takes (kind.Operator opener) t.kind (part_due no_anns [] (ann_whole c)) (other t.kind) k) o (u c)) w
 
   pub annotation_read : (opener : Opener) {a m b : Parser X I} {t : Token X} {n : RustAnn}
-      → Takes text steps can left a.reader m.reader t → t.kind ≡ kind.Operator opener → m.deep ≡ a.deep
-      → GivesAnn text steps can left m b n
-      → GivesOpened text steps can left opener a b (Some n)
+      → Takes texts source a.reader m.reader t → t.kind ≡ kind.Operator opener → m.deep ≡ a.deep
+      → GivesAnn texts source m b n
+      → GivesOpened texts source opener a b (Some n)
   annotation_read opener {a = a} {b = b} {t = t} {n = n} h k same x = record {
     annotation = Some x.annotation;
     keeps = record {
@@ -146,57 +147,62 @@ module _ {X I : Type 0} {text : X → List ℕ} {steps : I → Option (Result (T
 
   -- ---- parameters
 
-  module _ (a : Parser X I) {m : Reader X I} {name : RustName} (n : GivesName text steps can left a.reader m name) where
-    named : (d : DefStart) (ps : List Param) → Onward text steps a.reader m (at (param_due d ps))
-        (at (param_named d ps (name_of_token (lexeme text n.token))))
-    named d ps = step_to (param_due d ps) (param_named d ps (name_of_token (lexeme text n.token))) n.takes
-        (ap (transition (param_due d ps) (lexeme text n.token)) n.is)
+  module _ (a : Parser X I) {m : Reader X I} {name : RustName} (n : GivesName texts source a.reader m name) where
+    named : (d : DefStart) (ps : List Param) → Onward texts.text source.next_gives a.reader m (at (param_due d ps))
+        (at (param_named d ps (name_of_token (lexeme texts.text n.token))))
+    named d ps = step_to (param_due d ps) (param_named d ps (name_of_token (lexeme texts.text n.token))) n.takes
+        (ap (transition (param_due d ps) (lexeme texts.text n.token)) n.is)
 
-    stands : (d : DefStart) (ps : List Param) → StandsBefore text m (param_named d ps (name_of_token (lexeme text n.token)))
-        (opens_ann sign.Colon (of_param d ps (name_of_token (lexeme text n.token)))
-        (param_more d ps (name_of_token (lexeme text n.token)) None))
-    stands d ps = stands_at (param_named d ps (name_of_token (lexeme text n.token)))
-        (opens_ann sign.Colon (of_param d ps (name_of_token (lexeme text n.token)))
-        (param_more d ps (name_of_token (lexeme text n.token)) None)) refl (λ t k. refl)
+    stands : (d : DefStart) (ps : List Param) → StandsBefore texts.text m
+        (param_named d ps (name_of_token (lexeme texts.text n.token)))
+        (opens_ann sign.Colon (of_param d ps (name_of_token (lexeme texts.text n.token)))
+        (param_more d ps (name_of_token (lexeme texts.text n.token)) None))
+    stands d ps = stands_at (param_named d ps (name_of_token (lexeme texts.text n.token)))
+        (opens_ann sign.Colon (of_param d ps (name_of_token (lexeme texts.text n.token)))
+        (param_more d ps (name_of_token (lexeme texts.text n.token)) None)) refl (λ t k. refl)
 
     pub its_annotation_fails : {e : Fault} → Blames e (λ o. (st : State) (c : AnnotationPosition)
-        (other : TokenKind → Transition) → StandsBefore text m st (opens_ann sign.Colon c other)
-        → Came text steps m (at st) o)
+        (other : TokenKind → Transition) → StandsBefore texts.text m st (opens_ann sign.Colon c other)
+        → Came texts.text source.next_gives m (at st) o)
         → Blames e (λ o. (d : DefStart) (ps : List Param) → IsAhead (kind.Operator sign.RightParenthesis) a.reader.ahead
-        ≡ false → Came text steps a.reader (at (param_due d ps)) o)
+        ≡ false → Came texts.text source.next_gives a.reader (at (param_due d ps)) o)
     its_annotation_fails w = blame (λ o u. λ d ps p. named d ps o
-        (u (param_named d ps (name_of_token (lexeme text n.token))) (of_param d ps (name_of_token (lexeme text n.token)))
-        (param_more d ps (name_of_token (lexeme text n.token)) None) (stands d ps))) w
+        (u (param_named d ps (name_of_token (lexeme texts.text n.token)))
+        (of_param d ps (name_of_token (lexeme texts.text n.token)))
+        (param_more d ps (name_of_token (lexeme texts.text n.token)) None) (stands d ps))) w
 
     module _ {q b : Parser X I} {ann : Option RustAnn} (same : q.reader ≡ m)
-        (x : GivesOpened text steps can left sign.Colon q b ann) where
-      behind : (d : DefStart) (ps : List Param) → LeadsTo text steps m b.reader
-          (param_named d ps (name_of_token (lexeme text n.token))) (param_more d ps (name_of_token (lexeme text n.token))
+        (x : GivesOpened texts source sign.Colon q b ann) where
+      behind : (d : DefStart) (ps : List Param) → LeadsTo texts.text source.next_gives m b.reader
+          (param_named d ps (name_of_token (lexeme texts.text n.token)))
+          (param_more d ps (name_of_token (lexeme texts.text n.token))
           x.annotation)
-      behind d ps = let N = name_of_token (lexeme text n.token) in
-          let r : LeadsTo text steps q.reader b.reader (param_named d ps N)
+      behind d ps = let N = name_of_token (lexeme texts.text n.token) in
+          let r : LeadsTo texts.text source.next_gives q.reader b.reader (param_named d ps N)
           (or_ann (of_param d ps N) (param_more d ps N None) x.annotation) =
           x.leads (param_named d ps N) (of_param d ps N) (param_more d ps N None)
-          (subst (λ z. StandsBefore text z (param_named d ps N) (opens_ann sign.Colon (of_param d ps N)
+          (subst (λ z. StandsBefore texts.text z (param_named d ps N) (opens_ann sign.Colon (of_param d ps N)
           (param_more d ps N None))) (sym same) (stands d ps)) in
           reached_so (param_more d ps N x.annotation)
-          (subst (λ z. LeadsTo text steps z b.reader (param_named d ps N)
+          (subst (λ z. LeadsTo texts.text source.next_gives z b.reader (param_named d ps N)
           (or_ann (of_param d ps N) (param_more d ps N None) x.annotation)) same r)
           (λ t h. ann_more d ps N x.annotation t.kind)
 
-      pub its_default_fails : {e : Fault} → Blames e (λ o. (st : State) (c : LiteralContext) (other : TokenKind → Transition)
-          → StandsBefore text b.reader st (Rattle.pc_reader.specs.Internal.Literals.opens_literal c other)
-          → Came text steps b.reader (at st) o)
+      pub its_default_fails : {e : Fault} → Blames e (λ o. (st : State) (c : LiteralContext)
+          (other : TokenKind → Transition)
+          → StandsBefore texts.text b.reader st (Rattle.pc_reader.specs.Internal.Literals.opens_literal c other)
+          → Came texts.text source.next_gives b.reader (at st) o)
           → Blames e (λ o. (d : DefStart) (ps : List Param) → IsAhead (kind.Operator sign.RightParenthesis)
-          a.reader.ahead ≡ false → Came text steps a.reader (at (param_due d ps)) o)
-      its_default_fails w = blame (λ o u. λ d ps p. let N = name_of_token (lexeme text n.token) in let r = behind d ps in
+          a.reader.ahead ≡ false → Came texts.text source.next_gives a.reader (at (param_due d ps)) o)
+      its_default_fails w = blame (λ o u. λ d ps p. let N = name_of_token (lexeme texts.text n.token) in let r =
+          behind d ps in
           named d ps o (r.leads o (u r.behind (default_of_param d ps N x.annotation)
           (param_end d ps (param N x.annotation None)) r.stands))) w
 
       pub parameter_read : {f : Parser X I} {l : Option RustLiteral} → q.deep ≡ a.deep → f.deep ≡ b.deep
-          → GivesDefault text steps can left b.reader f.reader l
-          → GivesParam text steps can left a f (record { name = name; annotation = ann; default = l })
-      parameter_read {f = f} {l = l} qa fb y = let N = name_of_token (lexeme text n.token) in record {
+          → GivesDefault texts source b.reader f.reader l
+          → GivesParam texts source a f (record { name = name; annotation = ann; default = l })
+      parameter_read {f = f} {l = l} qa fb y = let N = name_of_token (lexeme texts.text n.token) in record {
         parameter = param N x.annotation (option_literal_of l);
         keeps = record {
           deep = fb ∙ x.keeps.deep ∙ ap (λ z. deep_after z (optional_anns x.annotation)) qa;
@@ -204,7 +210,7 @@ module _ {X I : Type 0} {text : X → List ℕ} {steps : I → Option (Result (T
               ∙ ap (λ z. param N z (option_literal_of l)) (x.keeps.kept (sym fb ∙ e));
         };
         ready = y.ready;
-        later = omega (arith, y.later, x.later, n.takes.later, ap (left_in left) same);
+        later = omega (arith, y.later, x.later, n.takes.later, ap (left_in source.remaining) same);
         leads = λ d ps. let r = behind d ps in
             reached_after (named d ps)
             (reached_on r (reached_so (param_end d ps (param N x.annotation (option_literal_of l)))
@@ -214,18 +220,20 @@ module _ {X I : Type 0} {text : X → List ℕ} {steps : I → Option (Result (T
 
   -- ---- lists of parameters
 
-  pub no_params : (a : Parser X I) {v : Vec RustParam Global} → v.items ≡ [] → ParamsSoFar text steps can left a a v
+  pub no_params : (a : Parser X I) {v : Vec RustParam Global} → v.items ≡ [] → ParamsSoFar texts source a a v
   no_params a e = record { params = []; keeps = kept_none param_of wholes_of_params refl a.deep e; leads = λ d o y. y }
 
-  module _ {a m : Parser X I} {v : Vec RustParam Global} (s : ParamsSoFar text steps can left a m v) where
+  module _ {a m : Parser X I} {v : Vec RustParam Global} (s : ParamsSoFar texts source a m v) where
     pub take_fails : {e : Fault} → Blames e (λ o. (r : Reading) → (m.reader.ahead ≡ None → stop r ≡ short)
-        → Came text steps m.reader r o) → Blames e (λ o. (d : DefStart) → Came text steps a.reader (at (param_due d []))
+        → Came texts.text source.next_gives m.reader r o) → Blames e
+        (λ o. (d : DefStart) → Came texts.text source.next_gives a.reader (at (param_due d []))
         o)
     take_fails w = blame (λ o u. λ d. s.leads d o (u (at (param_due d s.params)) (λ q. refl))) w
 
-    pub params_end : {b : Parser X I} {t : Token X} → Takes text steps can left m.reader b.reader t
-        → t.kind ≡ kind.Operator sign.RightParenthesis → b.deep ≡ m.deep → left_in left m.reader ≤ left_in left a.reader
-        → GivesParams text steps can left (λ d. param_due d []) a b v
+    pub params_end : {b : Parser X I} {t : Token X} → Takes texts source m.reader b.reader t
+        → t.kind ≡ kind.Operator sign.RightParenthesis → b.deep ≡ m.deep → left_in source.remaining m.reader ≤ left_in
+        source.remaining a.reader
+        → GivesParams texts source (λ d. param_due d []) a b v
     params_end {b = b} {t = t} h k same later = record {
       params = s.params;
       keeps = subst (λ z. KeepsTree (λ (w : Vec RustParam Global). map param_of w.items) wholes_of_params a.deep z v
@@ -233,27 +241,27 @@ module _ {X I : Type 0} {text : X → List ℕ} {steps : I → Option (Result (T
       ready = h.ready;
       later = omega (arith, h.later, later);
       leads = λ d o y. s.leads d o (step_to (param_due d s.params) (params_read d s.params) h
-          (ap (transition (param_due d s.params) (lexeme text t)) k) o y);
+          (ap (transition (param_due d s.params) (lexeme texts.text t)) k) o y);
     }
 
     pub parameter_fails : {e : Fault} → IsAhead (kind.Operator sign.RightParenthesis) m.reader.ahead ≡ false
         → Blames e (λ o. (d : DefStart) (ps : List Param) → IsAhead (kind.Operator sign.RightParenthesis) m.reader.ahead
-        ≡ false → Came text steps m.reader (at (param_due d ps)) o)
-        → Blames e (λ o. (d : DefStart) → Came text steps a.reader (at (param_due d [])) o)
+        ≡ false → Came texts.text source.next_gives m.reader (at (param_due d ps)) o)
+        → Blames e (λ o. (d : DefStart) → Came texts.text source.next_gives a.reader (at (param_due d [])) o)
     parameter_fails p w = blame (λ o u. λ d. s.leads d o (u d s.params p)) w
 
-    module _ {q : Parser X I} {r : RustParam} (x : GivesParam text steps can left m q r) where
+    module _ {q : Parser X I} {r : RustParam} (x : GivesParam texts source m q r) where
       -- the tokens after a parameter
       pub comma_fails : {e : Fault} → Blames e (λ o. (z : Reading) → (q.reader.ahead ≡ None → stop z ≡ short)
-          → Came text steps q.reader z o) → Blames e (λ o. (d : DefStart)
-          → Came text steps a.reader (at (param_due d [])) o)
+          → Came texts.text source.next_gives q.reader z o) → Blames e (λ o. (d : DefStart)
+          → Came texts.text source.next_gives a.reader (at (param_due d [])) o)
       comma_fails w = blame (λ o u. λ d. let y = x.leads d s.params in
           s.leads d o (y.leads o (u (at y.behind) (λ e. y.stands.unfinished)))) w
 
       pub close_fails : {e : Fault} → IsAhead (kind.Operator sign.Comma) q.reader.ahead ≡ false
-          → Blames e (λ o. (st : State) → NeedsKind text (kind.Operator sign.RightParenthesis) st q.reader
-          → Came text steps q.reader (at st) o) → Blames e (λ o. (d : DefStart)
-          → Came text steps a.reader (at (param_due d [])) o)
+          → Blames e (λ o. (st : State) → NeedsKind texts.text (kind.Operator sign.RightParenthesis) st q.reader
+          → Came texts.text source.next_gives q.reader (at st) o) → Blames e (λ o. (d : DefStart)
+          → Came texts.text source.next_gives a.reader (at (param_due d [])) o)
       close_fails p w = blame (λ o u. λ d. let y = x.leads d s.params in
           s.leads d o
           (y.leads o (u y.behind (awaits (kind.Operator sign.RightParenthesis)
@@ -266,8 +274,8 @@ module _ {X I : Type 0} {text : X → List ℕ} {steps : I → Option (Result (T
             (s.params ++ (x.parameter ∷ []))
         kept = kept_more param_of (λ p. optional_anns p.annotation) wholes_of_params params_split push s.keeps x.keeps
 
-        pub more_params : {b : Parser X I} {t : Token X} → Takes text steps can left q.reader b.reader t
-            → t.kind ≡ kind.Operator sign.Comma → b.deep ≡ q.deep → ParamsSoFar text steps can left a b v'
+        pub more_params : {b : Parser X I} {t : Token X} → Takes texts source q.reader b.reader t
+            → t.kind ≡ kind.Operator sign.Comma → b.deep ≡ q.deep → ParamsSoFar texts source a b v'
         more_params {t = t} h k same = record {
           params = s.params ++ (x.parameter ∷ []);
           keeps = subst (λ z. KeepsTree (λ (w : Vec RustParam Global). map param_of w.items) wholes_of_params a.deep z
@@ -276,10 +284,11 @@ module _ {X I : Type 0} {text : X → List ℕ} {steps : I → Option (Result (T
               (takes (kind.Operator sign.Comma) t.kind (param_due d (s.params ++ (x.parameter ∷ []))) _ k) o y);
         }
 
-        pub last_param : {b : Parser X I} {t : Token X} → Takes text steps can left q.reader b.reader t
+        pub last_param : {b : Parser X I} {t : Token X} → Takes texts source q.reader b.reader t
             → t.kind ≡ kind.Operator sign.RightParenthesis → IsAhead (kind.Operator sign.Comma) q.reader.ahead ≡ false
             → b.deep ≡ q.deep
-            → left_in left m.reader ≤ left_in left a.reader → GivesParams text steps can left (λ d. param_due d []) a b
+            → left_in source.remaining m.reader ≤ left_in source.remaining a.reader
+            → GivesParams texts source (λ d. param_due d []) a b
             v'
         last_param {t = t} h k p same later = record {
           params = s.params ++ (x.parameter ∷ []);

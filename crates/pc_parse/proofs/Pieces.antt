@@ -1,9 +1,10 @@
 -- Constants, items and the last line, as the machine reads them and as the tree holds them.
+use Rattle.std.specs.declared.convert.AsStr.{Ghosts as TextOf}
+use Rattle.std.specs.declared.iter.Iterator.{Ghosts as TokensOf}
 use Rattle.std.proofs.Common.{◌≡◌, ℕ, ◌&&◌, Bool, true, false, List, [], ◌∷◌, ◌++◌, Option, Some, None, Result, refl}
 use Rattle.std.proofs.Common.{arith, ap, sym, ◌∙◌, subst, append_assoc}
 use Rattle.std.specs.Prelude.{Vec, codes, bytes_eq}
 use Rattle.std.specs.declared.alloc.Global.{Global}
-use Rattle.std.specs.Iterator.{Count}
 use Rattle.std.proofs.lemmas.List.{append-nil}
 use Rattle.pc_source.specs.declared.fault.Fault.{Fault}
 use Rattle.pc_source.specs.declared.place.Place.{Place}
@@ -23,12 +24,12 @@ use Rattle.pc_tree.specs.Tree.{Name, Ann, Expr, Constant, Item, constant_item, c
 use Rattle.pc_tree.specs.Tree.{option_ann_of, expr_of, item_of}
 use Rattle.pc_tree.specs.Depth.{optional_anns, whole_expr, wholes_of_item, wholes_of_items}
 use Rattle.pc_grammar.specs.Grammar.{name_of_token}
-use Rattle.pc_grammar.specs.Machine.{Reading, at, transition, stop, short, reads}
+use Rattle.pc_grammar.specs.Machine.{at, transition, reads}
 use Rattle.pc_grammar.specs.Machine.Kinds.{same_kind, a_kind}
 use Rattle.pc_grammar.specs.Machine.States.{after_headers, Top, of_module, AnnotationPosition, of_constant}
 use Rattle.pc_grammar.specs.Machine.States.{ExpressionPosition, in_constant, whole, ann_whole, part_due, State, fixed}
 use Rattle.pc_grammar.specs.Machine.States.{items, importing, item_named, decorator_due, def_due, operand, have, ended}
-use Rattle.pc_grammar.specs.Machine.States.{Transition, stuck, go, on}
+use Rattle.pc_grammar.specs.Machine.States.{Transition, stuck, on}
 use Rattle.pc_grammar.specs.Machine.Finishing.{add_item, at_line_end}
 use Rattle.pc_grammar.specs.Machine.Lines.{due, module_of as module_over}
 use Rattle.pc_grammar.specs.Fronts.Lines.{is_method}
@@ -154,47 +155,47 @@ pub constant_annotation_fails : {X I : Type 0} (text : X → List ℕ) (steps : 
 constant_annotation_fails text steps a n unlike e w = blame (λ o u. λ top. u (item_named n top) (of_constant n top)
     (begins_value n None top) (begun a n top unlike)) w
 
-module _ {X I : Type 0} {text : X → List ℕ} {steps : I → Option (Result (Token X) Fault) → I → Type 0}
-    {can : I → Type 0} {left : I → Count} where
+module _ {X I : Type 0} {texts : TextOf X} {source : TokensOf I (Result (Token X) Fault)} where
   -- ---- constants
 
   module _ (a : Parser X I) (n : Name) (unlike : IsNoLastLine a.reader n) where
-    module _ {q : Parser X I} {ann : Option RustAnn} (x : GivesOpened text steps can left sign.Colon a q ann) where
-      valued_at : (top : Top) → LeadsTo text steps a.reader q.reader (item_named n top)
+    module _ {q : Parser X I} {ann : Option RustAnn} (x : GivesOpened texts source sign.Colon a q ann) where
+      valued_at : (top : Top) → LeadsTo texts.text source.next_gives a.reader q.reader (item_named n top)
           (begins_value n x.annotation top)
       valued_at top = reached_so (begins_value n x.annotation top)
           (x.leads (item_named n top) (of_constant n top) (begins_value n None top) (begun a.reader n top unlike))
           (λ t h. valued n top x.annotation t.kind)
 
-      pub value_missing : {e : Fault} → Blames e (λ o. (st : State) → NeedsKind text (kind.Operator sign.Equal) st
-          q.reader → Came text steps q.reader (at st) o) → Blames e
-          (λ o. (top : Top) → Came text steps a.reader (at (item_named n top)) o)
+      pub value_missing : {e : Fault} → Blames e (λ o. (st : State) → NeedsKind texts.text (kind.Operator sign.Equal) st
+          q.reader → Came texts.text source.next_gives q.reader (at st) o) → Blames e
+          (λ o. (top : Top) → Came texts.text source.next_gives a.reader (at (item_named n top)) o)
       value_missing w = blame (λ o u. λ top. let r = valued_at top in
           r.leads o (u r.behind (awaits (kind.Operator sign.Equal) (operand (whole (in_constant n x.annotation top)))
           r.stands (λ t h. refl)))) w
 
-      module _ {p : Reader X I} {t : Token X} (h : Takes text steps can left q.reader p t)
+      module _ {p : Reader X I} {t : Token X} (h : Takes texts source q.reader p t)
           (k : t.kind ≡ kind.Operator sign.Equal) where
-        to_value : (top : Top) → Onward text steps a.reader p (at (item_named n top))
+        to_value : (top : Top) → Onward texts.text source.next_gives a.reader p (at (item_named n top))
             (at (operand (whole (in_constant n x.annotation top))))
         to_value top = reaches_to (operand (whole (in_constant n x.annotation top))) (valued_at top) h
             (takes (kind.Operator sign.Equal) t.kind (operand (whole (in_constant n x.annotation top))) stuck k)
 
         pub value_fails : {e : Fault} → Blames e (λ o. (c : ExpressionPosition)
-            → Came text steps p (at (operand (whole c))) o) → Blames e
-            (λ o. (top : Top) → Came text steps a.reader (at (item_named n top)) o)
+            → Came texts.text source.next_gives p (at (operand (whole c))) o) → Blames e
+            (λ o. (top : Top) → Came texts.text source.next_gives a.reader (at (item_named n top)) o)
         value_fails w = blame (λ o u. λ top. to_value top o (u (in_constant n x.annotation top))) w
 
-        module _ {w b : Parser X I} {o : Operand} (same : w.reader ≡ p) (y : GivesWhole text steps can left w b o) where
-          to_end : (top : Top) → Onward text steps a.reader b.reader (at (item_named n top))
+        module _ {w b : Parser X I} {o : Operand} (same : w.reader ≡ p) (y : GivesWhole texts source w b o) where
+          to_end : (top : Top) → Onward texts.text source.next_gives a.reader b.reader (at (item_named n top))
               (at (have o.level y.part (whole (in_constant n x.annotation top))))
           to_end top r z = to_value top r
-              (subst (λ i. Came text steps i (at (operand (whole (in_constant n x.annotation top)))) r) same
+              (subst (λ i. Came texts.text source.next_gives i (at (operand (whole (in_constant n x.annotation top))))
+              r) same
               (y.leads (in_constant n x.annotation top) r z))
 
-          pub line_unended : {e : Fault} → Blames e (λ r. (st : State) → NeedsKind text kind.Newline st b.reader
-              → Came text steps b.reader (at st) r) → Blames e (λ r. (top : Top)
-              → Came text steps a.reader (at (item_named n top)) r)
+          pub line_unended : {e : Fault} → Blames e (λ r. (st : State) → NeedsKind texts.text kind.Newline st b.reader
+              → Came texts.text source.next_gives b.reader (at st) r) → Blames e (λ r. (top : Top)
+              → Came texts.text source.next_gives a.reader (at (item_named n top)) r)
           line_unended w = blame (λ r u. λ top. let next = items after_headers
               (add_item top (constant_item n.place (record {
                 name = n;
@@ -209,8 +210,8 @@ module _ {X I : Type 0} {text : X → List ℕ} {steps : I → Option (Result (T
               }))) w
 
           pub constant_read : {s : Parser X I} {v : Token X} (name : RustName) → n ≡ name_of name → w.deep ≡ q.deep
-              → s.deep ≡ b.deep → Takes text steps can left b.reader s.reader v → v.kind ≡ kind.Newline
-              → GivesConstant text steps can left a s n (record { name = name; annotation = ann; value = o.expr })
+              → s.deep ≡ b.deep → Takes texts source b.reader s.reader v → v.kind ≡ kind.Newline
+              → GivesConstant texts source a s n (record { name = name; annotation = ann; value = o.expr })
           constant_read {s = s} {v = v} name is wq sb j i =
               let late : s.deep ≡ deep_after q.deep (whole_expr y.part.tree ∷ []) = sb ∙ y.deep
               ∙ ap (λ z. deep_after z (whole_expr y.part.tree ∷ [])) wq in
@@ -226,7 +227,7 @@ module _ {X I : Type 0} {text : X → List ℕ} {steps : I → Option (Result (T
                       ∙ ap (make n x.annotation) (kept_tree o y.part q.deep y.keeps (sym late ∙ e));
                 };
                 ready = j.ready;
-                later = omega (arith, j.later, y.later, h.later, x.later, ap (left_in left) same);
+                later = omega (arith, j.later, y.later, h.later, x.later, ap (left_in source.remaining) same);
                 leads = λ top r z. let next = items after_headers (add_item top
                     (constant_item n.place (record { name = n; annotation = x.annotation; value = y.part.tree }))) in
                     to_end top r (step_to (have o.level y.part (whole (in_constant n x.annotation top))) next j
@@ -237,9 +238,9 @@ module _ {X I : Type 0} {text : X → List ℕ} {steps : I → Option (Result (T
   -- ---- items
 
   pub class_as_item : (a p : Parser X I) {b : Parser X I} {t : Token X} {c : RustClassDef}
-      → Takes text steps can left a.reader p.reader t → t.kind ≡ kind.Operator sign.At → p.deep ≡ a.deep
-      → GivesClass text steps can left p b c
-      → GivesItem text steps can left a b (record { first = t.place; kind = rust.Class c })
+      → Takes texts source a.reader p.reader t → t.kind ≡ kind.Operator sign.At → p.deep ≡ a.deep
+      → GivesClass texts source p b c
+      → GivesItem texts source a b (record { first = t.place; kind = rust.Class c })
   class_as_item a p {b = b} {t = t} h k same x = record {
     item = class_item t.place x.class;
     keeps = record {
@@ -250,20 +251,20 @@ module _ {X I : Type 0} {text : X → List ℕ} {steps : I → Option (Result (T
     ready = x.ready;
     later = omega (arith, x.later, h.later);
     leads = λ top o y. step_to (items after_headers top) (decorator_due t.place top) h
-        (ap (transition (items after_headers top) (lexeme text t)) k) o (x.leads t.place top o y);
+        (ap (transition (items after_headers top) (lexeme texts.text t)) k) o (x.leads t.place top o y);
   }
 
-  pub class_fails : {a m : Reader X I} {t : Token X} {e : Fault} → Takes text steps can left a m t
+  pub class_fails : {a m : Reader X I} {t : Token X} {e : Fault} → Takes texts source a m t
       → t.kind ≡ kind.Operator sign.At → Blames e (λ o. (first : Place) (top : Top)
-      → Came text steps m (at (decorator_due first top)) o)
-      → Blames e (λ o. (top : Top) → Came text steps a (at (items after_headers top)) o)
+      → Came texts.text source.next_gives m (at (decorator_due first top)) o)
+      → Blames e (λ o. (top : Top) → Came texts.text source.next_gives a (at (items after_headers top)) o)
   class_fails {t = t} h k w = blame (λ o u. λ top. step_to (items after_headers top) (decorator_due t.place top) h
-      (ap (transition (items after_headers top) (lexeme text t)) k) o (u t.place top)) w
+      (ap (transition (items after_headers top) (lexeme texts.text t)) k) o (u t.place top)) w
 
   pub function_as_item : (a p : Parser X I) {b : Parser X I} {t : Token X} {f : RustFuncDef}
-      → Takes text steps can left a.reader p.reader t → t.kind ≡ kind.Keyword word.Def → p.deep ≡ a.deep
-      → GivesFunction text steps can left false p b f
-      → GivesItem text steps can left a b (record { first = t.place; kind = rust.Def f })
+      → Takes texts source a.reader p.reader t → t.kind ≡ kind.Keyword word.Def → p.deep ≡ a.deep
+      → GivesFunction texts source false p b f
+      → GivesItem texts source a b (record { first = t.place; kind = rust.Def f })
   function_as_item a p {b = b} {t = t} h k same x = record {
     item = def_item t.place x.function;
     keeps = record {
@@ -274,44 +275,47 @@ module _ {X I : Type 0} {text : X → List ℕ} {steps : I → Option (Result (T
     ready = x.ready;
     later = omega (arith, x.later, h.later);
     leads = λ top o y. step_to (items after_headers top) (def_due (of_module top) t.place) h
-        (ap (transition (items after_headers top) (lexeme text t)) k) o (x.leads (of_module top) t.place refl o y);
+        (ap (transition (items after_headers top) (lexeme texts.text t)) k) o
+        (x.leads (of_module top) t.place refl o y);
   }
 
-  pub function_fails : {a m : Reader X I} {t : Token X} {e : Fault} → Takes text steps can left a m t
+  pub function_fails : {a m : Reader X I} {t : Token X} {e : Fault} → Takes texts source a m t
       → t.kind ≡ kind.Keyword word.Def
-      → Blames e (λ o. (owner : Rattle.pc_grammar.specs.Machine.States.FunctionOwner) (first : Place) → is_method owner ≡ false
-      → Came text steps m (at (def_due owner first)) o) → Blames e
-      (λ o. (top : Top) → Came text steps a (at (items after_headers top)) o)
+      → Blames e (λ o. (owner : Rattle.pc_grammar.specs.Machine.States.FunctionOwner) (first : Place)
+      → is_method owner ≡ false
+      → Came texts.text source.next_gives m (at (def_due owner first)) o) → Blames e
+      (λ o. (top : Top) → Came texts.text source.next_gives a (at (items after_headers top)) o)
   function_fails {t = t} h k w = blame (λ o u. λ top. step_to (items after_headers top)
-      (def_due (of_module top) t.place) h (ap (transition (items after_headers top) (lexeme text t)) k) o
+      (def_due (of_module top) t.place) h (ap (transition (items after_headers top) (lexeme texts.text t)) k) o
       (u (of_module top) t.place refl)) w
 
-  module _ (a : Parser X I) {m : Reader X I} {name : RustName} (n : GivesName text steps can left a.reader m name) where
-    named : (top : Top) → Onward text steps a.reader m (at (items after_headers top))
+  module _ (a : Parser X I) {m : Reader X I} {name : RustName} (n : GivesName texts source a.reader m name) where
+    named : (top : Top) → Onward texts.text source.next_gives a.reader m (at (items after_headers top))
         (at (item_named (name_of name) top))
-    named top o y = step_to (items after_headers top) (item_named (name_of_token (lexeme text n.token)) top) n.takes
-        (ap (transition (items after_headers top) (lexeme text n.token)) n.is) o
-        (subst (λ z. Came text steps m (at (item_named z top)) o) n.name y)
+    named top o y = step_to (items after_headers top) (item_named (name_of_token (lexeme texts.text n.token)) top)
+        n.takes
+        (ap (transition (items after_headers top) (lexeme texts.text n.token)) n.is) o
+        (subst (λ z. Came texts.text source.next_gives m (at (item_named z top)) o) n.name y)
 
     pub constant_fails : {e : Fault} → Blames e (λ o. (top : Top)
-        → Came text steps m (at (item_named (name_of name) top)) o)
-        → Blames e (λ o. (top : Top) → Came text steps a.reader (at (items after_headers top)) o)
+        → Came texts.text source.next_gives m (at (item_named (name_of name) top)) o)
+        → Blames e (λ o. (top : Top) → Came texts.text source.next_gives a.reader (at (items after_headers top)) o)
     constant_fails w = blame (λ o u. λ top. named top o (u top)) w
 
     pub last_read : {b : Parser X I} → (IsAhead (kind.Operator sign.LeftParenthesis) m.ahead
         && bytes_eq (name_of name).text (codes "main")) ≡ true → b.deep ≡ a.deep
-        → GivesFixed text steps can left (a_kind (kind.Operator sign.LeftParenthesis)
+        → GivesFixed texts source (a_kind (kind.Operator sign.LeftParenthesis)
         ∷ a_kind (kind.Operator sign.RightParenthesis) ∷ a_kind kind.Newline ∷ a_kind kind.End ∷ []) m b.reader
-        → GivesLast text steps can left a b name.place
+        → GivesLast texts source a b name.place
     last_read e same x = record {
       same = same;
       ready = x.ready;
-      leads = λ top o y. named top o (last_line text steps m (name_of name) e top o
+      leads = λ top o y. named top o (last_line texts.text source.next_gives m (name_of name) e top o
           (x.leads (ended (module_over top name.place)) o y));
     }
 
     pub constant_as_item : (p : Parser X I) {b : Parser X I} {v : RustConstant} → p.reader ≡ m → p.deep ≡ a.deep
-        → GivesConstant text steps can left p b (name_of name) v → GivesItem text steps can left a b
+        → GivesConstant texts source p b (name_of name) v → GivesItem texts source a b
         (record { first = name.place; kind = rust.Constant v })
     constant_as_item p {b = b} pm same x = record {
       item = constant_item name.place x.constant;
@@ -321,16 +325,17 @@ module _ {X I : Type 0} {text : X → List ℕ} {steps : I → Option (Result (T
         kept = λ e. ap (constant_item name.place) (x.keeps.kept e);
       };
       ready = x.ready;
-      later = omega (arith, x.later, n.takes.later, ap (left_in left) pm);
-      leads = λ top o y. named top o (subst (λ z. Came text steps z (at (item_named (name_of name) top)) o) pm
+      later = omega (arith, x.later, n.takes.later, ap (left_in source.remaining) pm);
+      leads = λ top o y. named top o
+          (subst (λ z. Came texts.text source.next_gives z (at (item_named (name_of name) top)) o) pm
           (x.leads top o y));
     }
 
   -- ---- lists of items
 
   pub more_items : {a m b : Parser X I} {h : OptionalImports} {v v' : Vec RustItem Global} {i : RustItem}
-      → ItemsSoFar text steps can left a m h v → GivesItem text steps can left m b i → v'.items ≡ v.items ++ (i ∷ [])
-      → ItemsSoFar text steps can left a b h v'
+      → ItemsSoFar texts source a m h v → GivesItem texts source m b i → v'.items ≡ v.items ++ (i ∷ [])
+      → ItemsSoFar texts source a b h v'
   more_items {h = h} s x push = record {
     all = s.all ++ (x.item ∷ []);
     keeps = kept_more item_of wholes_of_item wholes_of_items items_split push s.keeps x.keeps;

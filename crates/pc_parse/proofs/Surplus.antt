@@ -1,9 +1,10 @@
 -- The end of a module, and tokens after it.
+use Rattle.std.specs.declared.convert.AsStr.{Ghosts as TextOf}
+use Rattle.std.specs.declared.iter.Iterator.{Ghosts as TokensOf}
 use Rattle.std.specs.Option.{is_some}
 use Rattle.std.proofs.Common.{◌≡◌, ℕ, true, false, List, [], Option, Some, None, Result, Ok, refl, ap, sym, ◌∙◌, subst}
 use Rattle.std.specs.Prelude.{Vec}
 use Rattle.std.specs.declared.alloc.Global.{Global}
-use Rattle.std.specs.Iterator.{Count}
 use Rattle.pc_source.specs.declared.fault.Fault.{Fault}
 use Rattle.pc_source.specs.declared.place.Place.{Place}
 use Rattle.pc_token.specs.declared.token.Token.{Token}
@@ -15,7 +16,7 @@ use Rattle.pc_token.specs.Lexeme.{Lexeme}
 use Rattle.pc_tree.specs.declared.keys.Keys.{Keys}
 use Rattle.pc_tree.specs.declared.tree.Item.{Item as RustItem}
 use Rattle.pc_tree.specs.Tree.{Item, Module}
-use Rattle.pc_grammar.specs.Machine.{Reading, at, transition, arrive, stop_at, short}
+use Rattle.pc_grammar.specs.Machine.{at, transition, arrive, stop_at, short}
 use Rattle.pc_grammar.specs.Machine.Kinds.{a_kind}
 use Rattle.pc_grammar.specs.Machine.Lines.{start, module_of as module_over}
 use Rattle.pc_grammar.specs.Machine.States.{State, fixed, ended, stuck}
@@ -67,22 +68,23 @@ module _ {X I : Type 0} (text : X → List ℕ) (steps : I → Option (Result (T
                 (same_token (sym q ∙ h)) (refuses_it (lexeme text t) t.kind);
           }))) w
 
-module _ {X I : Type 0} {text : X → List ℕ} {steps : I → Option (Result (Token X) Fault) → I → Type 0}
-    {can : I → Type 0} {left : I → Count} {a m : Parser X I} {h : OptionalImports} {v : Vec RustItem Global}
-    (s : ItemsSoFar text steps can left a m h v) where
+module _ {X I : Type 0} {texts : TextOf X} {source : TokensOf I (Result (Token X) Fault)} {a m : Parser X I}
+    {h : OptionalImports} {v : Vec RustItem Global}
+    (s : ItemsSoFar texts source a m h v) where
   -- where an item does not go on
   pub item_fails : {e : Fault} → Blames e (λ o. (top : Rattle.pc_grammar.specs.Machine.States.Top)
-      → Came text steps m.reader
+      → Came texts.text source.next_gives m.reader
       (at (Rattle.pc_grammar.specs.Machine.States.items Rattle.pc_grammar.specs.Machine.States.after_headers top)) o)
-      → Blames e (λ o. Came text steps a.reader (at start) o)
+      → Blames e (λ o. Came texts.text source.next_gives a.reader (at start) o)
   item_fails w = blame (λ o u. s.leads o (u (top_of h s.all))) w
 
-  module _ {b : Parser X I} {main : Place} (x : GivesLast text steps can left m b main) where
-    pub end_fails : {e : Fault} → Blames e (λ o. Came text steps b.reader
-        (at (ended (module_over (top_of h s.all) main))) o) → Blames e (λ o. Came text steps a.reader (at start) o)
+  module _ {b : Parser X I} {main : Place} (x : GivesLast texts source m b main) where
+    pub end_fails : {e : Fault} → Blames e (λ o. Came texts.text source.next_gives b.reader
+        (at (ended (module_over (top_of h s.all) main))) o) → Blames e
+        (λ o. Came texts.text source.next_gives a.reader (at start) o)
     end_fails w = blame (λ o u. s.leads o (x.leads (top_of h s.all) o u)) w
 
-    pub module_read : {k : Keys} → b.reader.ahead ≡ None → GivesModule text steps can left a b
+    pub module_read : {k : Keys} → b.reader.ahead ≡ None → GivesModule texts source a b
         (record { imports_dataclass = h.dataclass; imports_any = h.any; items = v; main = main; keys = k })
     module_read none = let tree = module_over (top_of h s.all) main in
         let make : List Item → Module = λ is. record {
@@ -94,7 +96,7 @@ module _ {X I : Type 0} {text : X → List ℕ} {steps : I → Option (Result (T
           tree = tree;
           keeps = record { deep = x.same ∙ s.keeps.deep; kept = λ e. ap make (s.keeps.kept (sym x.same ∙ e)) };
           comes = s.leads (Ok tree) (x.leads (top_of h s.all) (Ok tree)
-              (at_end text steps b.reader (at (ended tree)) (Ok tree) none refl));
+              (at_end texts.text source.next_gives b.reader (at (ended tree)) (Ok tree) none refl));
         }
 
 -- whether a token is ahead, by its kind

@@ -120,7 +120,7 @@ fn union<X: AsStr + Drop, I: Iterator<Item = Result<Token<X>, Fault>> + Drop>(
     alloc: Global,
 ) -> Result<Annotation, Fault>
     requires { IsReady I.can_next I.remaining reader.old }
-    ensures reads { ReadsUnion X.text I.next_gives I.can_next I.remaining reader.old reader.new result }
+    ensures reads { ReadsUnion X.AsStr I.Iterator reader.old reader.new result }
     ensures over { IfOk result (λ _. IsAhead (kind.Operator sign.Bar) reader.new.ahead ≡ false) }
 {
     let first = part(reader, alloc)?;
@@ -149,7 +149,7 @@ fn part<X: AsStr + Drop, I: Iterator<Item = Result<Token<X>, Fault>> + Drop>(
     alloc: Global,
 ) -> Result<Annotation, Fault>
     requires { IsReady I.can_next I.remaining reader.old }
-    ensures { ReadsPart X.text I.next_gives I.can_next I.remaining reader.old reader.new result }
+    ensures { ReadsPart X.AsStr I.Iterator reader.old reader.new result }
 {
     if reader.sees(TokenKind::Keyword(Keyword::None)) {
         let none = reader.take()?;
@@ -172,7 +172,7 @@ fn arguments<X: AsStr + Drop, I: Iterator<Item = Result<Token<X>, Fault>> + Drop
     head: Name,
 ) -> Result<Annotation, Fault>
     requires { IsReady I.can_next I.remaining reader.old }
-    ensures { ReadsApplied X.text I.next_gives I.can_next I.remaining
+    ensures { ReadsApplied X.AsStr I.Iterator
         (λ n ts parts before s. argument_due n ts parts before s) reader.old reader.new head result }
 {
     let start = head.place.start;
@@ -202,7 +202,7 @@ fn no_arguments<X: AsStr + Drop, I: Iterator<Item = Result<Token<X>, Fault>> + D
     head: Name,
 ) -> Result<Annotation, Fault>
     requires { IsReady I.can_next I.remaining reader.old }
-    ensures { ReadsApplied X.text I.next_gives I.can_next I.remaining
+    ensures { ReadsApplied X.AsStr I.Iterator
         (λ n ts parts before s. empty_opened n ts parts before s) reader.old reader.new head result }
 {
     reader.expect(TokenKind::Operator(Operator::RightParenthesis))?;
@@ -218,7 +218,7 @@ impl<X: AsStr + Drop, I: Iterator<Item = Result<Token<X>, Fault>> + Drop> Parser
     /// Reads a whole annotation and notes its depth.
     pub(crate) fn annotation(&mut self, alloc: Global) -> Result<Ann, Fault>
         requires { IsReady I.can_next I.remaining self.old.reader }
-        ensures { ReadsAnn X.text I.next_gives I.can_next I.remaining self.old self.new result }
+        ensures { ReadsAnn X.AsStr I.Iterator self.old self.new result }
     {
         let annotation = union(&mut self.reader, alloc)?;
         self.note(annotation.place.start, annotation.depth);

@@ -17,7 +17,7 @@ fn base<X: AsStr + Drop, I: Iterator<Item = Result<Token<X>, Fault>> + Drop>(
     alloc: Global,
 ) -> Result<Option<Name>, Fault>
     requires { IsReady I.can_next I.remaining reader.old }
-    ensures { ReadsBase X.text I.next_gives I.can_next I.remaining reader.old reader.new result }
+    ensures { ReadsBase X.AsStr I.Iterator reader.old reader.new result }
 {
     if !reader.sees(TokenKind::Operator(Operator::LeftParenthesis)) {
         reader.fixed(&[
@@ -42,7 +42,7 @@ impl<X: AsStr + Drop, I: Iterator<Item = Result<Token<X>, Fault>> + Drop> Parser
     /// Reads a field and the end of its line.
     fn field(&mut self, alloc: Global) -> Result<Field, Fault>
         requires { IsReady I.can_next I.remaining self.old.reader }
-        ensures { ReadsField X.text I.next_gives I.can_next I.remaining self.old self.new result }
+        ensures { ReadsField X.AsStr I.Iterator self.old self.new result }
     {
         let name = self.reader.name(alloc)?;
         self.reader.expect(TokenKind::Operator(Operator::Colon))?;
@@ -59,7 +59,7 @@ impl<X: AsStr + Drop, I: Iterator<Item = Result<Token<X>, Fault>> + Drop> Parser
     /// Reads a field or a method.
     fn member(&mut self, alloc: Global) -> Result<Member, Fault>
         requires { IsReady I.can_next I.remaining self.old.reader }
-        ensures { ReadsMember X.text I.next_gives I.can_next I.remaining self.old self.new result }
+        ensures { ReadsMember X.AsStr I.Iterator self.old self.new result }
     {
         if self.reader.sees(TokenKind::Keyword(Keyword::Def)) {
             self.reader.take()?;
@@ -73,7 +73,7 @@ impl<X: AsStr + Drop, I: Iterator<Item = Result<Token<X>, Fault>> + Drop> Parser
     /// Reads the members of a class, or `pass`, and the end of the suite.
     fn members(&mut self, alloc: Global) -> Result<Vec<Member>, Fault>
         requires { IsReady I.can_next I.remaining self.old.reader }
-        ensures { ReadsMembers X.text I.next_gives I.can_next I.remaining self.old self.new result }
+        ensures { ReadsMembers X.AsStr I.Iterator self.old self.new result }
     {
         let mut members = Vec::new(alloc);
         if self.reader.sees(TokenKind::Keyword(Keyword::Pass)) {
@@ -97,7 +97,7 @@ impl<X: AsStr + Drop, I: Iterator<Item = Result<Token<X>, Fault>> + Drop> Parser
     /// Reads a class, from after its `@`.
     pub(crate) fn class(&mut self, alloc: Global) -> Result<ClassDef, Fault>
         requires { IsReady I.can_next I.remaining self.old.reader }
-        ensures { ReadsClass X.text I.next_gives I.can_next I.remaining self.old self.new result }
+        ensures { ReadsClass X.AsStr I.Iterator self.old self.new result }
     {
         let word = self.reader.expect_name("dataclass")?;
         self.reader

@@ -14,7 +14,7 @@ impl<X: AsStr + Drop, I: Iterator<Item = Result<Token<X>, Fault>> + Drop> Parser
     /// Reads `self`, the parameters after it, and the closing parenthesis.
     fn parameters_of_method(&mut self, alloc: Global) -> Result<Vec<Param>, Fault>
         requires { IsReady I.can_next I.remaining self.old.reader }
-        ensures { ReadsMethodParams X.text I.next_gives I.can_next I.remaining self.old self.new result }
+        ensures { ReadsMethodParams X.AsStr I.Iterator self.old self.new result }
     {
         self.reader.expect_name("self")?;
         if self.reader.sees(TokenKind::Operator(Operator::Comma)) {
@@ -29,7 +29,7 @@ impl<X: AsStr + Drop, I: Iterator<Item = Result<Token<X>, Fault>> + Drop> Parser
     /// Reads the parameters of a function or a method, with the parentheses around them.
     fn signature(&mut self, alloc: Global, method: bool) -> Result<Vec<Param>, Fault>
         requires { IsReady I.can_next I.remaining self.old.reader }
-        ensures { ReadsSignature X.text I.next_gives I.can_next I.remaining method self.old self.new result }
+        ensures { ReadsSignature X.AsStr I.Iterator method self.old self.new result }
     {
         self.reader
             .expect(TokenKind::Operator(Operator::LeftParenthesis))?;
@@ -42,7 +42,7 @@ impl<X: AsStr + Drop, I: Iterator<Item = Result<Token<X>, Fault>> + Drop> Parser
     /// Reads a function or a method, from after its `def`.
     pub(crate) fn function(&mut self, alloc: Global, method: bool) -> Result<FuncDef, Fault>
         requires { IsReady I.can_next I.remaining self.old.reader }
-        ensures { ReadsFunction X.text I.next_gives I.can_next I.remaining method self.old self.new result }
+        ensures { ReadsFunction X.AsStr I.Iterator method self.old self.new result }
     {
         let name = self.reader.name(alloc)?;
         let params = self.signature(alloc, method)?;

@@ -23,7 +23,7 @@ fn imports<X: AsStr + Drop, I: Iterator<Item = Result<Token<X>, Fault>> + Drop>(
     imported: &str,
 ) -> Result<(), Fault>
     requires { IsReady I.can_next I.remaining reader.old }
-    ensures { ReadsFixed X.text I.next_gives I.can_next I.remaining
+    ensures { ReadsFixed X.AsStr I.Iterator
         (import_words source.now imported.now) reader.old reader.new result }
 {
     reader.expect_name(source)?;
@@ -38,7 +38,7 @@ pub(crate) fn read_headers<X: AsStr + Drop, I: Iterator<Item = Result<Token<X>, 
     reader: &mut Reader<X, I>,
 ) -> Result<OptionalImports, Fault>
     requires { IsReady I.can_next I.remaining reader.old }
-    ensures { ReadsHeaders X.text I.next_gives I.can_next I.remaining reader.old reader.new result }
+    ensures { ReadsHeaders X.AsStr I.Iterator reader.old reader.new result }
 {
     reader.expect(TokenKind::Keyword(Keyword::From))?;
     imports(reader, "__future__", "annotations")?;

@@ -18,7 +18,7 @@ impl<X: AsStr + Drop, I: Iterator<Item = Result<Token<X>, Fault>> + Drop> Parser
         opener: Operator,
     ) -> Result<Option<Ann>, Fault>
         requires { IsReady I.can_next I.remaining self.old.reader }
-        ensures { ReadsOpened X.text I.next_gives I.can_next I.remaining opener self.old self.new result }
+        ensures { ReadsOpened X.AsStr I.Iterator opener self.old self.new result }
     {
         if !self.reader.sees(TokenKind::Operator(opener)) {
             return Ok(None);
@@ -31,7 +31,7 @@ impl<X: AsStr + Drop, I: Iterator<Item = Result<Token<X>, Fault>> + Drop> Parser
     /// Reads a parameter: a name, and its annotation and its default if it has them.
     fn parameter(&mut self, alloc: Global) -> Result<Param, Fault>
         requires { IsReady I.can_next I.remaining self.old.reader }
-        ensures { ReadsParam X.text I.next_gives I.can_next I.remaining self.old self.new result }
+        ensures { ReadsParam X.AsStr I.Iterator self.old self.new result }
     {
         let name = self.reader.name(alloc)?;
         let annotation = self.annotation_behind(alloc, Operator::Colon)?;
@@ -46,7 +46,7 @@ impl<X: AsStr + Drop, I: Iterator<Item = Result<Token<X>, Fault>> + Drop> Parser
     /// Reads parameters and the closing parenthesis.
     pub(crate) fn parameters(&mut self, alloc: Global) -> Result<Vec<Param>, Fault>
         requires { IsReady I.can_next I.remaining self.old.reader }
-        ensures { ReadsParams X.text I.next_gives I.can_next I.remaining self.old self.new result }
+        ensures { ReadsParams X.AsStr I.Iterator self.old self.new result }
     {
         let mut params = Vec::new(alloc);
         loop {

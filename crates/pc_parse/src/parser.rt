@@ -38,7 +38,7 @@ impl<X: AsStr + Drop, I: Iterator<Item = Result<Token<X>, Fault>> + Drop> Parser
     /// Reads a whole expression and notes its depth.
     pub(crate) fn expression(&mut self, alloc: Global) -> Result<Operand, Fault>
         requires { IsReady I.can_next I.remaining self.old.reader }
-        ensures { ReadsWhole X.text I.next_gives I.can_next I.remaining self.old self.new result }
+        ensures { ReadsWhole X.AsStr I.Iterator self.old self.new result }
     {
         let operand = self.reader.operators(alloc, 0)?;
         self.note(operand.first, operand.depth);

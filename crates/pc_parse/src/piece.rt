@@ -37,7 +37,7 @@ impl<X: AsStr + Drop, I: Iterator<Item = Result<Token<X>, Fault>> + Drop> Parser
     /// Reads a constant, from after its name, and the end of its line.
     fn constant(&mut self, alloc: Global, name: Name) -> Result<Constant, Fault>
         requires { IsReady I.can_next I.remaining self.old.reader }
-        ensures { ReadsConstant X.text I.next_gives I.can_next I.remaining self.old self.new (name_of name) result }
+        ensures { ReadsConstant X.AsStr I.Iterator self.old self.new (name_of name) result }
     {
         let annotation = self.annotation_behind(alloc, Operator::Colon)?;
         self.reader.expect(TokenKind::Operator(Operator::Equal))?;
@@ -53,7 +53,7 @@ impl<X: AsStr + Drop, I: Iterator<Item = Result<Token<X>, Fault>> + Drop> Parser
     /// Reads an item of the module, or its last line.
     fn piece(&mut self, alloc: Global) -> Result<Piece, Fault>
         requires { IsReady I.can_next I.remaining self.old.reader }
-        ensures { ReadsPiece X.text I.next_gives I.can_next I.remaining self.old self.new result }
+        ensures { ReadsPiece X.AsStr I.Iterator self.old self.new result }
     {
         if self.reader.sees(TokenKind::Operator(Operator::At)) {
             let at = self.reader.take()?;
@@ -93,7 +93,7 @@ impl<X: AsStr + Drop, I: Iterator<Item = Result<Token<X>, Fault>> + Drop> Parser
     pub(crate) fn module(&mut self, alloc: Global, keys: Keys) -> Result<Module, Fault>
         requires { IsReady I.can_next I.remaining self.old.reader }
         ensures keyed { IfOk result (λ m. m.keys ≡ keys) }
-        ensures read { ReadsModule X.text I.next_gives I.can_next I.remaining self.old self.new result }
+        ensures read { ReadsModule X.AsStr I.Iterator self.old self.new result }
     {
         let headers = read_headers(&mut self.reader)?;
         let mut items = Vec::new(alloc);

@@ -100,7 +100,7 @@ impl<X: AsStr + Drop, I: Iterator<Item = Result<Token<X>, Fault>> + Drop> Parser
     /// Reads the end of the line and returns `read`, the statement before it.
     fn line_end<T: Drop>(&mut self, read: T) -> Result<T, Fault>
         requires { IsReady I.can_next I.remaining self.old.reader }
-        ensures { ReadsLineEnd X.text I.next_gives I.can_next I.remaining self.old self.new read result }
+        ensures { ReadsLineEnd X.AsStr I.Iterator self.old self.new read result }
     {
         self.reader.expect(TokenKind::Newline)?;
         Ok(read)
@@ -109,7 +109,7 @@ impl<X: AsStr + Drop, I: Iterator<Item = Result<Token<X>, Fault>> + Drop> Parser
     /// Reads `pass`, `break` or `continue`, and the end of the line.
     pub(crate) fn word(&mut self, word: OneWordStatement) -> Result<Stmt, Fault>
         requires { IsReady I.can_next I.remaining self.old.reader }
-        ensures { ReadsStmt X.text I.next_gives I.can_next I.remaining
+        ensures { ReadsStmt X.AsStr I.Iterator
             (λ _. HasWord X.text (kind_of_word word) self.old) self.old self.new result }
     {
         let first = self.reader.take()?;
@@ -122,7 +122,7 @@ impl<X: AsStr + Drop, I: Iterator<Item = Result<Token<X>, Fault>> + Drop> Parser
     /// Reads `return`, with or without a value, and the end of the line.
     pub(crate) fn returned(&mut self, alloc: Global) -> Result<Stmt, Fault>
         requires { IsReady I.can_next I.remaining self.old.reader }
-        ensures { ReadsStmt X.text I.next_gives I.can_next I.remaining
+        ensures { ReadsStmt X.AsStr I.Iterator
             (λ _. HasLead leads_return self.old) self.old self.new result }
     {
         let first = self.reader.take()?;
@@ -143,7 +143,7 @@ impl<X: AsStr + Drop, I: Iterator<Item = Result<Token<X>, Fault>> + Drop> Parser
     /// Reads `assert`, a condition, a comma and a message if there is one, and the end of the line.
     pub(crate) fn asserted(&mut self, alloc: Global) -> Result<Stmt, Fault>
         requires { IsReady I.can_next I.remaining self.old.reader }
-        ensures { ReadsStmt X.text I.next_gives I.can_next I.remaining
+        ensures { ReadsStmt X.AsStr I.Iterator
             (λ _. HasLead leads_assert self.old) self.old self.new result }
     {
         let first = self.reader.take()?;
@@ -167,7 +167,7 @@ impl<X: AsStr + Drop, I: Iterator<Item = Result<Token<X>, Fault>> + Drop> Parser
     /// Reads a statement that begins with an expression: an assignment, an annotated local, or the expression alone.
     pub(crate) fn line(&mut self, alloc: Global) -> Result<Stmt, Fault>
         requires { IsReady I.can_next I.remaining self.old.reader }
-        ensures { ReadsStmt X.text I.next_gives I.can_next I.remaining
+        ensures { ReadsStmt X.AsStr I.Iterator
             (λ _. HasLead leads_other self.old) self.old self.new result }
     {
         let Some(first) = self.reader.place() else {
@@ -202,7 +202,7 @@ impl<X: AsStr + Drop, I: Iterator<Item = Result<Token<X>, Fault>> + Drop> Parser
     /// Reads the annotation of a local, from after its `:`, its value if there is one, and the end of the line.
     fn annotated(&mut self, alloc: Global, first: Place, name: Name) -> Result<Stmt, Fault>
         requires { IsReady I.can_next I.remaining self.old.reader }
-        ensures { ReadsLocal X.text I.next_gives I.can_next I.remaining first name self.old self.new result }
+        ensures { ReadsLocal X.AsStr I.Iterator first name self.old self.new result }
     {
         let annotation = self.annotation(alloc)?;
         let boxed = Box::new(alloc, annotation)?;

@@ -17,7 +17,7 @@ impl<X: AsStr + Drop, I: Iterator<Item = Result<Token<X>, Fault>> + Drop> Parser
     #[cycle(statements)]
     pub(crate) fn suite(&mut self, alloc: Global) -> Result<Vec<Stmt>, Fault>
         requires { IsReady I.can_next I.remaining self.old.reader }
-        ensures { ReadsSuite X.text I.next_gives I.can_next I.remaining self.old self.new result }
+        ensures { ReadsSuite X.AsStr I.Iterator self.old self.new result }
     {
         self.reader.expect(TokenKind::Newline)?;
         self.reader.expect(TokenKind::Indent)?;
@@ -36,7 +36,7 @@ impl<X: AsStr + Drop, I: Iterator<Item = Result<Token<X>, Fault>> + Drop> Parser
     #[cycle(statements)]
     fn statement(&mut self, alloc: Global) -> Result<Stmt, Fault>
         requires { IsReady I.can_next I.remaining self.old.reader }
-        ensures { ReadsStmt X.text I.next_gives I.can_next I.remaining
+        ensures { ReadsStmt X.AsStr I.Iterator
             (λ done. MayGoOn done self.old) self.old self.new result }
     {
         match self.lead() {
@@ -57,7 +57,7 @@ impl<X: AsStr + Drop, I: Iterator<Item = Result<Token<X>, Fault>> + Drop> Parser
     #[cycle(statements)]
     fn while_loop(&mut self, alloc: Global) -> Result<Stmt, Fault>
         requires { IsReady I.can_next I.remaining self.old.reader }
-        ensures { ReadsStmt X.text I.next_gives I.can_next I.remaining
+        ensures { ReadsStmt X.AsStr I.Iterator
             (λ _. HasLead leads_while self.old) self.old self.new result }
     {
         let first = self.reader.take()?;
@@ -73,7 +73,7 @@ impl<X: AsStr + Drop, I: Iterator<Item = Result<Token<X>, Fault>> + Drop> Parser
     #[cycle(statements)]
     fn for_loop(&mut self, alloc: Global) -> Result<Stmt, Fault>
         requires { IsReady I.can_next I.remaining self.old.reader }
-        ensures { ReadsStmt X.text I.next_gives I.can_next I.remaining
+        ensures { ReadsStmt X.AsStr I.Iterator
             (λ _. HasLead leads_for self.old) self.old self.new result }
     {
         let first = self.reader.take()?;
@@ -91,7 +91,7 @@ impl<X: AsStr + Drop, I: Iterator<Item = Result<Token<X>, Fault>> + Drop> Parser
     #[cycle(statements)]
     fn conditional(&mut self, alloc: Global) -> Result<Stmt, Fault>
         requires { IsReady I.can_next I.remaining self.old.reader }
-        ensures { ReadsStmt X.text I.next_gives I.can_next I.remaining
+        ensures { ReadsStmt X.AsStr I.Iterator
             (λ _. HasLead leads_if self.old) self.old self.new result }
     {
         let first = self.reader.take()?;
@@ -114,7 +114,7 @@ impl<X: AsStr + Drop, I: Iterator<Item = Result<Token<X>, Fault>> + Drop> Parser
     #[cycle(statements)]
     fn headed(&mut self, alloc: Global) -> Result<(Expr, Vec<Stmt>), Fault>
         requires { IsReady I.can_next I.remaining self.old.reader }
-        ensures { ReadsHeaded X.text I.next_gives I.can_next I.remaining self.old self.new result }
+        ensures { ReadsHeaded X.AsStr I.Iterator self.old self.new result }
     {
         let head = self.expression(alloc)?;
         self.reader.expect(TokenKind::Operator(Operator::Colon))?;
@@ -126,7 +126,7 @@ impl<X: AsStr + Drop, I: Iterator<Item = Result<Token<X>, Fault>> + Drop> Parser
     #[cycle(statements)]
     fn otherwise(&mut self, alloc: Global) -> Result<Vec<Stmt>, Fault>
         requires { IsReady I.can_next I.remaining self.old.reader }
-        ensures { ReadsElse X.text I.next_gives I.can_next I.remaining self.old self.new result }
+        ensures { ReadsElse X.AsStr I.Iterator self.old self.new result }
     {
         if !self.reader.sees(TokenKind::Keyword(Keyword::Else)) {
             return Ok(Vec::new(alloc));

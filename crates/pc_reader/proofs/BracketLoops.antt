@@ -1,6 +1,7 @@
 -- State of the loops over the parts of a bracket.
-use Rattle.std.specs.Prelude.{ℕ, ◌≡◌, true, List, ◌++◌, Option, Some, Result}
-use Rattle.std.specs.Iterator.{Count}
+use Rattle.std.specs.declared.convert.AsStr.{Ghosts as TextOf}
+use Rattle.std.specs.declared.iter.Iterator.{Ghosts as TokensOf}
+use Rattle.std.specs.Prelude.{ℕ, ◌≡◌, true, List, ◌++◌, Some, Result}
 use Rattle.pc_source.specs.declared.fault.Fault.{Fault}
 use Rattle.pc_token.specs.declared.token.Token.{Token}
 use Rattle.pc_token.specs.declared.token.TokenKind.TheVariants as kind
@@ -18,15 +19,15 @@ use Rattle.pc_reader.specs.Internal.Operands.{Starts}
 use Rattle.pc_reader.specs.Internal.Brackets.{KeepsItems, KeepsEntries, KeepsKeywords}
 use Rattle.pc_reader.specs.Reading.{IsAhead, Onward}
 
-module _ {X I : Type 0} (text : X → List ℕ) (steps : I → Option (Result (Token X) Fault) → I → Type 0)
-    (can : I → Type 0) (left : I → Count) where
+module _ {X I : Type 0} (texts : TextOf X) (source : TokensOf I (Result (Token X) Fault)) where
   -- items after those that stood before the loop, if those were kept
   pub record ElementsSoFar (kept : Type 0) (a b : Reader X I) (now : Items) (h : BracketPurpose) (xs : Exprs)
       (ts : List Lexeme) : Type 0 where
     pub items : Exprs
     pub more : List Lexeme
     pub keeps : kept → KeepsItems now items
-    pub leads : (s : Stack) → Onward text steps a b (at (item_due h xs ts s)) (at (item_due h items (ts ++ more) s))
+    pub leads : (s : Stack) → Onward texts.text source.next_gives a b (at (item_due h xs ts s))
+        (at (item_due h items (ts ++ more) s))
 
   -- entries, from the opening brace on
   pub record EntriesSoFar (a b : Reader X I) (start : ℕ) (now : Entries) : Type 0 where
@@ -36,7 +37,7 @@ module _ {X I : Type 0} (text : X → List ℕ) (steps : I → Option (Result (T
     pub begins : (t : Token X) → a.ahead ≡ Some t → first_place tokens ≡ t.place
     pub keeps : KeepsEntries now entries
     pub leads : (s : Stack) → IsAhead (kind.Operator sign.LeftBrace) a.ahead ≡ true
-        → Onward text steps a b (at (operand s)) (at (key_due entries tokens s))
+        → Onward texts.text source.next_gives a b (at (operand s)) (at (key_due entries tokens s))
 
   -- arguments by name, and the name of the next one
   pub record NamesSoFar (a b : Reader X I) (first : Name) (now : Keywords) (next : Name) (e : Expr) (xs : Exprs)
@@ -44,5 +45,6 @@ module _ {X I : Type 0} (text : X → List ℕ) (steps : I → Option (Result (T
     pub arguments : KeywordTrees
     pub more : List Lexeme
     pub keeps : KeepsKeywords now arguments
-    pub leads : (s : Stack) → Onward text steps a b (at (operand (naming e xs no_keywords first ts s)))
+    pub leads : (s : Stack) → Onward texts.text source.next_gives a b
+        (at (operand (naming e xs no_keywords first ts s)))
         (at (operand (naming e xs arguments next (ts ++ more) s)))

@@ -1,9 +1,10 @@
 -- Literals, as the machine reads them.
+use Rattle.std.specs.declared.convert.AsStr.{Ghosts as TextOf}
+use Rattle.std.specs.declared.iter.Iterator.{Ghosts as TokensOf}
 use Rattle.std.proofs.Common.{◌≡◌, ℕ, true, false, List, [], ◌∷◌, Option, Some, None, Result, Ok, Err, refl, arith, ap}
 use Rattle.std.proofs.Common.{sym, ◌∙◌}
 use Rattle.std.specs.Prelude.{String, string_bytes}
 use Rattle.std.specs.declared.alloc.Global.{Global}
-use Rattle.std.specs.Iterator.{Count}
 use Rattle.pc_source.specs.declared.fault.Fault.{Fault}
 use Rattle.pc_token.specs.declared.token.Token.{Token}
 use Rattle.pc_token.specs.declared.token.TokenKind.{TokenKind}
@@ -17,7 +18,8 @@ use Rattle.pc_tree.specs.Tree.{number_literal, negative_literal, text_literal, l
 use Rattle.pc_grammar.specs.Grammar.{span, digits_of, characters_of}
 use Rattle.pc_grammar.specs.Machine.{at, transition}
 use Rattle.pc_grammar.specs.Machine.Kinds.{same_kind}
-use Rattle.pc_grammar.specs.Machine.States.{LiteralContext, State, literal_due, minus_read, literal_read, Transition, stuck}
+use Rattle.pc_grammar.specs.Machine.States.{LiteralContext, State, literal_due, minus_read, literal_read, Transition}
+use Rattle.pc_grammar.specs.Machine.States.{stuck}
 use Rattle.pc_grammar.specs.Machine.States.{go}
 use Rattle.pc_grammar.specs.Machine.Finishing.{finish_literal}
 use Rattle.pc_grammar.specs.Machine.Lines.{literal_turn}
@@ -80,10 +82,9 @@ pub literal_seen : {X : Type 0} {a : Option (Token X)} {t : Token X} → literal
     → is_literal_kind t.kind ≡ true
 literal_seen v h = sym (ap literal_ahead h) ∙ v
 
-module _ {X I : Type 0} {text : X → List ℕ} {steps : I → Option (Result (Token X) Fault) → I → Type 0}
-    {can : I → Type 0} {left : I → Count} where
-  pub single_literal : {a b : Reader X I} {t : Token X} {l : RustLiteral} → Takes text steps can left a b t
-      → IsLiteral (lexeme text t) l → GivesLiteral text steps can left (λ c. literal_due c) a b l
+module _ {X I : Type 0} {texts : TextOf X} {source : TokensOf I (Result (Token X) Fault)} where
+  pub single_literal : {a b : Reader X I} {t : Token X} {l : RustLiteral} → Takes texts source a b t
+      → IsLiteral (lexeme texts.text t) l → GivesLiteral texts source (λ c. literal_due c) a b l
   single_literal {t = t} {l = l} h v = record {
     ready = h.ready;
     later = h.later;
@@ -92,38 +93,40 @@ module _ {X I : Type 0} {text : X → List ℕ} {steps : I → Option (Result (T
   }
 
   pub negative_literal_is : {a b : Reader X I} {t : Token X} {digits : String Global}
-      (h : Takes text steps can left a b t) (u : Lexeme) → t.kind ≡ kind.Int
-      → string_bytes digits ≡ digits_of (text t.text)
-      → GivesLiteral text steps can left (λ c. minus_read c (u ∷ [])) a b
+      (h : Takes texts source a b t) (u : Lexeme) → t.kind ≡ kind.Int
+      → string_bytes digits ≡ digits_of (texts.text t.text)
+      → GivesLiteral texts source (λ c. minus_read c (u ∷ [])) a b
       (record { place = record { start = u.place.start; end = t.place.end }; kind = rust.NegativeInt digits })
   negative_literal_is {t = t} {digits = digits} h u k e = record {
     ready = h.ready;
     later = h.later;
     leads = λ c. step_to (minus_read c (u ∷ [])) (literal_read c
         (negative_literal (record { start = u.place.start; end = t.place.end }) (string_bytes digits))) h
-        (ap (transition (minus_read c (u ∷ [])) (lexeme text t)) k
+        (ap (transition (minus_read c (u ∷ [])) (lexeme texts.text t)) k
         ∙ ap (λ z. go (literal_read c (negative_literal (record { start = u.place.start; end = t.place.end }) z)))
         (sym e));
   }
 
   -- after a `-`
-  pub after_minus : {a m : Reader X I} {t : Token X} (b : Reader X I) → Takes text steps can left a m t
+  pub after_minus : {a m : Reader X I} {t : Token X} (b : Reader X I) → Takes texts source a m t
       → t.kind ≡ kind.Operator sign.Minus → (r : Result RustLiteral Fault)
-      → ReadsLiteralFrom text steps can left (λ c. minus_read c (lexeme text t ∷ [])) m b r
-      → ReadsLiteral text steps can left a b r
+      → ReadsLiteralFrom texts source (λ c. minus_read c (lexeme texts.text t ∷ [])) m b r
+      → ReadsLiteral texts source a b r
   after_minus {t = t} b h k (Ok l) x = record {
     ready = x.ready;
     later = omega (arith, x.later, h.later);
-    leads = λ c o y. step_to (literal_due c) (minus_read c (lexeme text t ∷ [])) h
-        (ap (transition (literal_due c) (lexeme text t)) k) o (x.leads c o y);
+    leads = λ c o y. step_to (literal_due c) (minus_read c (lexeme texts.text t ∷ [])) h
+        (ap (transition (literal_due c) (lexeme texts.text t)) k) o (x.leads c o y);
   }
-  after_minus {t = t} b h k (Err e) x = blame (λ o w. λ c. step_to (literal_due c) (minus_read c (lexeme text t ∷ [])) h
-      (ap (transition (literal_due c) (lexeme text t)) k) o (w c)) x
+  after_minus {t = t} b h k (Err e) x = blame (λ o w. λ c. step_to (literal_due c)
+      (minus_read c (lexeme texts.text t ∷ [])) h
+      (ap (transition (literal_due c) (lexeme texts.text t)) k) o (w c)) x
 
   -- ---- a default that may be left out
 
-  pub no_default : (a : Reader X I) → IsReady can left a → IsAhead (kind.Operator sign.Equal) a.ahead ≡ false
-      → GivesDefault text steps can left a a None
+  pub no_default : (a : Reader X I) → IsReady source.can_next source.remaining a
+      → IsAhead (kind.Operator sign.Equal) a.ahead ≡ false
+      → GivesDefault texts source a a None
   no_default a d e = record {
     ready = d;
     later = omega arith;
@@ -131,17 +134,17 @@ module _ {X I : Type 0} {text : X → List ℕ} {steps : I → Option (Result (T
         (not_seen (kind.Operator sign.Equal) e h)));
   }
 
-  pub default_fails : {a m : Reader X I} {t : Token X} {e : Fault} → Takes text steps can left a m t
+  pub default_fails : {a m : Reader X I} {t : Token X} {e : Fault} → Takes texts source a m t
       → t.kind ≡ kind.Operator sign.Equal → Blames e (λ o. (c : LiteralContext)
-      → Came text steps m (at (literal_due c)) o)
+      → Came texts.text source.next_gives m (at (literal_due c)) o)
       → Blames e (λ o. (st : State) (c : LiteralContext) (other : TokenKind → Transition)
-      → StandsBefore text a st (opens_literal c other) → Came text steps a (at st) o)
+      → StandsBefore texts.text a st (opens_literal c other) → Came texts.text source.next_gives a (at st) o)
   default_fails {t = t} h k w = blame (λ o u. λ st c other x. goes_to (literal_due c) x h
       (takes (kind.Operator sign.Equal) t.kind (literal_due c) (other t.kind) k) o (u c)) w
 
-  pub default_read : {a m b : Reader X I} {t : Token X} {l : RustLiteral} → Takes text steps can left a m t
-      → t.kind ≡ kind.Operator sign.Equal → GivesLiteral text steps can left (λ c. literal_due c) m b l
-      → GivesDefault text steps can left a b (Some l)
+  pub default_read : {a m b : Reader X I} {t : Token X} {l : RustLiteral} → Takes texts source a m t
+      → t.kind ≡ kind.Operator sign.Equal → GivesLiteral texts source (λ c. literal_due c) m b l
+      → GivesDefault texts source a b (Some l)
   default_read {t = t} {l = l} h k x = record {
     ready = x.ready;
     later = omega (arith, x.later, h.later);

@@ -1,7 +1,8 @@
 -- Arguments by name, one after another.
-use Rattle.std.proofs.Common.{◌≡◌, ℕ, false, List, [], ◌∷◌, ◌++◌, Option, Some, None, Result, refl, ap, sym, ◌∙◌, subst}
+use Rattle.std.specs.declared.convert.AsStr.{Ghosts as TextOf}
+use Rattle.std.specs.declared.iter.Iterator.{Ghosts as TokensOf}
+use Rattle.std.proofs.Common.{◌≡◌, ℕ, false, List, [], ◌∷◌, ◌++◌, Some, None, Result, refl, ap, sym, ◌∙◌, subst}
 use Rattle.std.proofs.Common.{append-nil}
-use Rattle.std.specs.Iterator.{Count}
 use Rattle.pc_source.specs.declared.fault.Fault.{Fault}
 use Rattle.pc_token.specs.declared.token.Token.{Token}
 use Rattle.pc_token.specs.declared.token.TokenKind.{TokenKind}
@@ -36,7 +37,8 @@ pub needs_name : {X I : Type 0} (text : X → List ℕ) (e : Expr) (xs : Exprs) 
     → NeedsKind text kind.Name (keyword_due e xs ks ts s) a
 needs_name text e xs ks ts s a n = record {
   unfinished = refl;
-  stuck_at = λ t h f. ap (λ z. on z (keyword_named e xs ks (name_of_token (lexeme text t)) (ts ++ (lexeme text t ∷ [])) s)
+  stuck_at = λ t h f. ap (λ z. on z (keyword_named e xs ks (name_of_token (lexeme text t)) (ts ++ (lexeme text t ∷ []))
+      s)
       (on (same_kind t.kind (kind.Operator sign.RightParenthesis))
       (have 7 (call_part e xs ks (ts ++ (lexeme text t ∷ []))) s) stuck)) f
       ∙ ap (λ z. on z (have 7 (call_part e xs ks (ts ++ (lexeme text t ∷ []))) s) stuck)
@@ -58,138 +60,148 @@ pub keyword_stuck : (level : ℕ) (e : Expr) (xs : Exprs) (ts : List Lexeme) (s 
 keyword_stuck level e xs ts s p t k f h = ap (transition (have level p (listing (in_call e) xs ts s)) t) h
     ∙ ap (λ z. begin_keyword z e xs (ts ++ (p.tokens ++ (t ∷ []))) s) f
 
-module _ {X I : Type 0} (text : X → List ℕ) (steps : I → Option (Result (Token X) Fault) → I → Type 0)
-    (can : I → Type 0) (left : I → Count) where
+module _ {X I : Type 0} (texts : TextOf X) (source : TokensOf I (Result (Token X) Fault)) where
   -- after the name of the first argument by name
   pub names_none : (a : Reader X I) (now : Keywords) (first : Name) (e : Expr) (xs : Exprs) (ts : List Lexeme)
-      → KeepsKeywords now no_keywords → NamesSoFar text steps can left a a first now first e xs ts
+      → KeepsKeywords now no_keywords → NamesSoFar texts source a a first now first e xs ts
   names_none a now first e xs ts k = record {
     arguments = no_keywords;
     more = [];
     keeps = k;
-    leads = λ s o x. subst (λ z. Came text steps a (at (operand (naming e xs no_keywords first z s))) o) (append-nil ts)
+    leads = λ s o x. subst (λ z. Came texts.text source.next_gives a (at (operand (naming e xs no_keywords first z s)))
+        o) (append-nil ts)
         x;
   }
 
   -- the value of an argument
   pub argument_read : {a b c : Reader X I} {first name : Name} {now : Keywords} {e : Expr} {xs : Exprs}
-      {ts : List Lexeme} {o : Operand} (v : NamesSoFar text steps can left a b first now name e xs ts) (s : Stack)
-      → (q : GivesOperand text steps can left (λ s. needed_level s ≡ 0) 0 b c o)
-      → Onward text steps a c (at (operand (naming e xs no_keywords first ts s)))
+      {ts : List Lexeme} {o : Operand} (v : NamesSoFar texts source a b first now name e xs ts) (s : Stack)
+      → (q : GivesOperand texts source (λ s. needed_level s ≡ 0) 0 b c o)
+      → Onward texts.text source.next_gives a c (at (operand (naming e xs no_keywords first ts s)))
       (at (have o.level q.part (naming e xs v.arguments name (ts ++ v.more) s)))
   argument_read {name = name} {e = e} {xs = xs} {ts = ts} v s q r x =
       v.leads s r (q.leads (naming e xs v.arguments name (ts ++ v.more) s) refl r x)
 
   -- and a comma after it
   pub argument_more : {a b c d : Reader X I} {first name : Name} {now : Keywords} {e : Expr} {xs : Exprs}
-      {ts : List Lexeme} {o : Operand} {t : Token X} (v : NamesSoFar text steps can left a b first now name e xs ts)
+      {ts : List Lexeme} {o : Operand} {t : Token X} (v : NamesSoFar texts source a b first now name e xs ts)
       (s : Stack)
-      → (q : GivesOperand text steps can left (λ s. needed_level s ≡ 0) 0 b c o) → Takes text steps can left c d t
+      → (q : GivesOperand texts source (λ s. needed_level s ≡ 0) 0 b c o) → Takes texts source c d t
       → t.kind ≡ kind.Operator sign.Comma
-      → Onward text steps a d (at (operand (naming e xs no_keywords first ts s)))
+      → Onward texts.text source.next_gives a d (at (operand (naming e xs no_keywords first ts s)))
       (at (keyword_due e xs (add_keyword v.arguments name q.part.tree)
-      (ts ++ (v.more ++ (q.part.tokens ++ (lexeme text t ∷ [])))) s))
+      (ts ++ (v.more ++ (q.part.tokens ++ (lexeme texts.text t ∷ [])))) s))
   argument_more {d = d} {name = name} {e = e} {xs = xs} {ts = ts} {o = o} {t = t} v s q h i r x = argument_read v s q r
       (step_to (have o.level q.part (naming e xs v.arguments name (ts ++ v.more) s))
       (keyword_due e xs (add_keyword v.arguments name q.part.tree)
-      ((ts ++ v.more) ++ (q.part.tokens ++ (lexeme text t ∷ []))) s) h
-      (ap (transition (have o.level q.part (naming e xs v.arguments name (ts ++ v.more) s)) (lexeme text t)) i) r
-      (regroup text steps d (λ z. keyword_due e xs (add_keyword v.arguments name q.part.tree) z s) ts v.more
-      (q.part.tokens ++ (lexeme text t ∷ [])) r x))
+      ((ts ++ v.more) ++ (q.part.tokens ++ (lexeme texts.text t ∷ []))) s) h
+      (ap (transition (have o.level q.part (naming e xs v.arguments name (ts ++ v.more) s)) (lexeme texts.text t)) i) r
+      (regroup texts.text source.next_gives d (λ z. keyword_due e xs (add_keyword v.arguments name q.part.tree) z s) ts
+      v.more
+      (q.part.tokens ++ (lexeme texts.text t ∷ [])) r x))
 
   -- with the closing parenthesis after the value
   pub argument_last : {a b c d : Reader X I} {first name : Name} {now now' : Keywords} {e : Expr} {xs : Exprs}
-      {ts : List Lexeme} {o : Operand} {t : Token X} (v : NamesSoFar text steps can left a b first now name e xs ts)
-      → (q : GivesOperand text steps can left (λ s. needed_level s ≡ 0) 0 b c o)
+      {ts : List Lexeme} {o : Operand} {t : Token X} (v : NamesSoFar texts source a b first now name e xs ts)
+      → (q : GivesOperand texts source (λ s. needed_level s ≡ 0) 0 b c o)
       → ((ks : KeywordTrees) (p : Part) → KeepsKeywords now ks → KeepsPart o p
       → KeepsKeywords now' (add_keyword ks name p.tree))
-      → Takes text steps can left c d t → t.kind ≡ kind.Operator sign.RightParenthesis
-      → NamesOn text steps can left a d (record { keywords = now'; end = t.place.end }) e xs no_keywords first ts
+      → Takes texts source c d t → t.kind ≡ kind.Operator sign.RightParenthesis
+      → NamesOn texts source a d (record { keywords = now'; end = t.place.end }) e xs no_keywords first ts
   argument_last {d = d} {name = name} {e = e} {xs = xs} {ts = ts} {o = o} {t = t} v q f h i = record {
     arguments = add_keyword v.arguments name q.part.tree;
-    more = v.more ++ (q.part.tokens ++ (lexeme text t ∷ []));
+    more = v.more ++ (q.part.tokens ++ (lexeme texts.text t ∷ []));
     keeps = f v.arguments q.part v.keeps q.keeps;
-    ends = ends_more v.more (ends_more q.part.tokens (ends_one (lexeme text t)));
+    ends = ends_more v.more (ends_more q.part.tokens (ends_one (lexeme texts.text t)));
     leads = λ s r x. argument_read v s q r
         (step_to (have o.level q.part (naming e xs v.arguments name (ts ++ v.more) s))
         (have 7 (call_part e xs (add_keyword v.arguments name q.part.tree)
-        ((ts ++ v.more) ++ (q.part.tokens ++ (lexeme text t ∷ [])))) s) h
-        (ap (transition (have o.level q.part (naming e xs v.arguments name (ts ++ v.more) s)) (lexeme text t)) i) r
-        (regroup text steps d (λ z. have 7 (call_part e xs (add_keyword v.arguments name q.part.tree) z) s) ts v.more
-        (q.part.tokens ++ (lexeme text t ∷ [])) r x));
+        ((ts ++ v.more) ++ (q.part.tokens ++ (lexeme texts.text t ∷ [])))) s) h
+        (ap (transition (have o.level q.part (naming e xs v.arguments name (ts ++ v.more) s)) (lexeme texts.text t)) i)
+        r
+        (regroup texts.text source.next_gives d (λ z. have 7 (call_part e xs (add_keyword v.arguments name q.part.tree)
+        z) s) ts v.more
+        (q.part.tokens ++ (lexeme texts.text t ∷ [])) r x));
   }
 
   -- with the closing parenthesis after a comma
   pub arguments_end : {a b c d f : Reader X I} {first name : Name} {now now' : Keywords} {e : Expr} {xs : Exprs}
-      {ts : List Lexeme} {o : Operand} {t u : Token X} (v : NamesSoFar text steps can left a b first now name e xs ts)
-      → (q : GivesOperand text steps can left (λ s. needed_level s ≡ 0) 0 b c o)
+      {ts : List Lexeme} {o : Operand} {t u : Token X} (v : NamesSoFar texts source a b first now name e xs ts)
+      → (q : GivesOperand texts source (λ s. needed_level s ≡ 0) 0 b c o)
       → ((ks : KeywordTrees) (p : Part) → KeepsKeywords now ks → KeepsPart o p
       → KeepsKeywords now' (add_keyword ks name p.tree))
-      → Takes text steps can left c d t → t.kind ≡ kind.Operator sign.Comma → Takes text steps can left d f u
+      → Takes texts source c d t → t.kind ≡ kind.Operator sign.Comma → Takes texts source d f u
       → u.kind ≡ kind.Operator sign.RightParenthesis
-      → NamesOn text steps can left a f (record { keywords = now'; end = u.place.end }) e xs no_keywords first ts
+      → NamesOn texts source a f (record { keywords = now'; end = u.place.end }) e xs no_keywords first ts
   arguments_end {f = f} {name = name} {e = e} {xs = xs} {ts = ts} {t = t} {u = u} v q g h i k l = record {
     arguments = add_keyword v.arguments name q.part.tree;
-    more = (v.more ++ (q.part.tokens ++ (lexeme text t ∷ []))) ++ (lexeme text u ∷ []);
+    more = (v.more ++ (q.part.tokens ++ (lexeme texts.text t ∷ []))) ++ (lexeme texts.text u ∷ []);
     keeps = g v.arguments q.part v.keeps q.keeps;
-    ends = ends_more (v.more ++ (q.part.tokens ++ (lexeme text t ∷ []))) (ends_one (lexeme text u));
+    ends = ends_more (v.more ++ (q.part.tokens ++ (lexeme texts.text t ∷ []))) (ends_one (lexeme texts.text u));
     leads = λ s r x. argument_more v s q h i r
         (step_to (keyword_due e xs (add_keyword v.arguments name q.part.tree)
-        (ts ++ (v.more ++ (q.part.tokens ++ (lexeme text t ∷ [])))) s)
+        (ts ++ (v.more ++ (q.part.tokens ++ (lexeme texts.text t ∷ [])))) s)
         (have 7 (call_part e xs (add_keyword v.arguments name q.part.tree)
-        ((ts ++ (v.more ++ (q.part.tokens ++ (lexeme text t ∷ [])))) ++ (lexeme text u ∷ []))) s) k
+        ((ts ++ (v.more ++ (q.part.tokens ++ (lexeme texts.text t ∷ [])))) ++ (lexeme texts.text u ∷ []))) s) k
         (ap (transition (keyword_due e xs (add_keyword v.arguments name q.part.tree)
-        (ts ++ (v.more ++ (q.part.tokens ++ (lexeme text t ∷ [])))) s) (lexeme text u)) l) r
-        (regroup text steps f (λ z. have 7 (call_part e xs (add_keyword v.arguments name q.part.tree) z) s) ts
-        (v.more ++ (q.part.tokens ++ (lexeme text t ∷ []))) (lexeme text u ∷ []) r x));
+        (ts ++ (v.more ++ (q.part.tokens ++ (lexeme texts.text t ∷ [])))) s) (lexeme texts.text u)) l) r
+        (regroup texts.text source.next_gives f (λ z. have 7 (call_part e xs (add_keyword v.arguments name q.part.tree)
+        z) s) ts
+        (v.more ++ (q.part.tokens ++ (lexeme texts.text t ∷ []))) (lexeme texts.text u ∷ []) r x));
   }
 
   -- up to the name of the next argument
   pub name_read : {a b c d f : Reader X I} {first name : Name} {now : Keywords} {e : Expr} {xs : Exprs}
       {ts : List Lexeme} {o : Operand} {t : Token X} {n : RustName}
-      (v : NamesSoFar text steps can left a b first now name e xs ts) (s : Stack)
-      → (q : GivesOperand text steps can left (λ s. needed_level s ≡ 0) 0 b c o) → Takes text steps can left c d t
-      → t.kind ≡ kind.Operator sign.Comma → (w : GivesName text steps can left d f n)
-      → Onward text steps a f (at (operand (naming e xs no_keywords first ts s)))
+      (v : NamesSoFar texts source a b first now name e xs ts) (s : Stack)
+      → (q : GivesOperand texts source (λ s. needed_level s ≡ 0) 0 b c o) → Takes texts source c d t
+      → t.kind ≡ kind.Operator sign.Comma → (w : GivesName texts source d f n)
+      → Onward texts.text source.next_gives a f (at (operand (naming e xs no_keywords first ts s)))
       (at (keyword_named e xs (add_keyword v.arguments name q.part.tree) (name_of n)
-      ((ts ++ (v.more ++ (q.part.tokens ++ (lexeme text t ∷ [])))) ++ (lexeme text w.token ∷ [])) s))
+      ((ts ++ (v.more ++ (q.part.tokens ++ (lexeme texts.text t ∷ [])))) ++ (lexeme texts.text w.token ∷ [])) s))
   name_read {name = name} {e = e} {xs = xs} {ts = ts} {t = t} {n = n} v s q h i w r x = argument_more v s q h i r
       (step_to (keyword_due e xs (add_keyword v.arguments name q.part.tree)
-      (ts ++ (v.more ++ (q.part.tokens ++ (lexeme text t ∷ [])))) s)
+      (ts ++ (v.more ++ (q.part.tokens ++ (lexeme texts.text t ∷ [])))) s)
       (keyword_named e xs (add_keyword v.arguments name q.part.tree) (name_of n)
-      ((ts ++ (v.more ++ (q.part.tokens ++ (lexeme text t ∷ [])))) ++ (lexeme text w.token ∷ [])) s) w.takes
+      ((ts ++ (v.more ++ (q.part.tokens ++ (lexeme texts.text t ∷ [])))) ++ (lexeme texts.text w.token ∷ [])) s) w.takes
       (ap (transition (keyword_due e xs (add_keyword v.arguments name q.part.tree)
-      (ts ++ (v.more ++ (q.part.tokens ++ (lexeme text t ∷ [])))) s) (lexeme text w.token)) w.is
+      (ts ++ (v.more ++ (q.part.tokens ++ (lexeme texts.text t ∷ [])))) s) (lexeme texts.text w.token)) w.is
       ∙ ap (λ z. go (keyword_named e xs (add_keyword v.arguments name q.part.tree) z
-      ((ts ++ (v.more ++ (q.part.tokens ++ (lexeme text t ∷ [])))) ++ (lexeme text w.token ∷ [])) s)) (sym w.name))
+      ((ts ++ (v.more ++ (q.part.tokens ++ (lexeme texts.text t ∷ [])))) ++ (lexeme texts.text w.token ∷ [])) s))
+      (sym w.name))
       r x)
 
   -- and its `=`
   pub names_more : {a b c d f g : Reader X I} {first name : Name} {now now' : Keywords} {e : Expr} {xs : Exprs}
       {ts : List Lexeme} {o : Operand} {t u : Token X} {n : RustName}
-      (v : NamesSoFar text steps can left a b first now name e xs ts)
-      → (q : GivesOperand text steps can left (λ s. needed_level s ≡ 0) 0 b c o)
+      (v : NamesSoFar texts source a b first now name e xs ts)
+      → (q : GivesOperand texts source (λ s. needed_level s ≡ 0) 0 b c o)
       → ((ks : KeywordTrees) (p : Part) → KeepsKeywords now ks → KeepsPart o p
       → KeepsKeywords now' (add_keyword ks name p.tree))
-      → Takes text steps can left c d t → t.kind ≡ kind.Operator sign.Comma → GivesName text steps can left d f n
-      → Takes text steps can left f g u → u.kind ≡ kind.Operator sign.Equal
-      → NamesSoFar text steps can left a g first now' (name_of n) e xs ts
+      → Takes texts source c d t → t.kind ≡ kind.Operator sign.Comma → GivesName texts source d f n
+      → Takes texts source f g u → u.kind ≡ kind.Operator sign.Equal
+      → NamesSoFar texts source a g first now' (name_of n) e xs ts
   names_more {g = g} {name = name} {e = e} {xs = xs} {ts = ts} {t = t} {u = u} {n = n} v q m h i w k l = record {
     arguments = add_keyword v.arguments name q.part.tree;
-    more = (v.more ++ (q.part.tokens ++ (lexeme text t ∷ []))) ++ (lexeme text w.token ∷ lexeme text u ∷ []);
+    more = (v.more ++ (q.part.tokens ++ (lexeme texts.text t ∷ [])))
+        ++ (lexeme texts.text w.token ∷ lexeme texts.text u ∷ []);
     keeps = m v.arguments q.part v.keeps q.keeps;
     leads = λ s r x. name_read v s q h i w r
         (step_to (keyword_named e xs (add_keyword v.arguments name q.part.tree) (name_of n)
-        ((ts ++ (v.more ++ (q.part.tokens ++ (lexeme text t ∷ [])))) ++ (lexeme text w.token ∷ [])) s)
+        ((ts ++ (v.more ++ (q.part.tokens ++ (lexeme texts.text t ∷ [])))) ++ (lexeme texts.text w.token ∷ [])) s)
         (operand (naming e xs (add_keyword v.arguments name q.part.tree) (name_of n)
-        (((ts ++ (v.more ++ (q.part.tokens ++ (lexeme text t ∷ [])))) ++ (lexeme text w.token ∷ []))
-        ++ (lexeme text u ∷ [])) s)) k
+        (((ts ++ (v.more ++ (q.part.tokens ++ (lexeme texts.text t ∷ [])))) ++ (lexeme texts.text w.token ∷ []))
+        ++ (lexeme texts.text u ∷ [])) s)) k
         (ap (transition (keyword_named e xs (add_keyword v.arguments name q.part.tree) (name_of n)
-        ((ts ++ (v.more ++ (q.part.tokens ++ (lexeme text t ∷ [])))) ++ (lexeme text w.token ∷ [])) s)
-        (lexeme text u)) l) r
-        (regroup text steps g (λ z. operand (naming e xs (add_keyword v.arguments name q.part.tree) (name_of n) z s))
-        (ts ++ (v.more ++ (q.part.tokens ++ (lexeme text t ∷ [])))) (lexeme text w.token ∷ []) (lexeme text u ∷ [])
+        ((ts ++ (v.more ++ (q.part.tokens ++ (lexeme texts.text t ∷ [])))) ++ (lexeme texts.text w.token ∷ [])) s)
+        (lexeme texts.text u)) l) r
+        (regroup texts.text source.next_gives g (λ z. operand (naming e xs (add_keyword v.arguments name q.part.tree)
+        (name_of n) z s))
+        (ts ++ (v.more ++ (q.part.tokens ++ (lexeme texts.text t ∷ [])))) (lexeme texts.text w.token ∷ [])
+        (lexeme texts.text u ∷ [])
         r
-        (regroup text steps g (λ z. operand (naming e xs (add_keyword v.arguments name q.part.tree) (name_of n) z s)) ts
-        (v.more ++ (q.part.tokens ++ (lexeme text t ∷ []))) (lexeme text w.token ∷ lexeme text u ∷ []) r x)));
+        (regroup texts.text source.next_gives g (λ z. operand (naming e xs (add_keyword v.arguments name q.part.tree)
+        (name_of n) z s)) ts
+        (v.more ++ (q.part.tokens ++ (lexeme texts.text t ∷ []))) (lexeme texts.text w.token ∷ lexeme texts.text u ∷ [])
+        r x)));
   }

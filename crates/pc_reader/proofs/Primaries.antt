@@ -1,7 +1,8 @@
 -- Operands without a sign, and their continuations.
+use Rattle.std.specs.declared.convert.AsStr.{Ghosts as TextOf}
+use Rattle.std.specs.declared.iter.Iterator.{Ghosts as TokensOf}
 use Rattle.std.proofs.Common.{◌≡◌, ℕ, ◌≤◌, ◌<◌, ◌⊎◌, inl, inr, false, List, [], ◌∷◌, ◌++◌, Option, Result, refl, arith}
 use Rattle.std.proofs.Common.{ap, sym, ◌∙◌, subst, Ok, Err}
-use Rattle.std.specs.Iterator.{Count}
 use Rattle.pc_source.specs.declared.fault.Fault.{Fault}
 use Rattle.pc_token.specs.declared.token.Token.{Token}
 use Rattle.pc_token.specs.declared.token.TokenKind.{TokenKind}
@@ -67,64 +68,65 @@ pub index_turn : (level : ℕ) (p : Part) (s : Stack) (t : Lexeme) (k : TokenKin
 index_turn level p s t k h e = ap (transition (have level p s) t) e
     ∙ tight 7 level (go (operand (indexing p.tree (p.tokens ++ (t ∷ [])) s))) h
 
-module _ {X I : Type 0} (text : X → List ℕ) (steps : I → Option (Result (Token X) Fault) → I → Type 0)
-    (can : I → Type 0) (left : I → Count) where
+module _ {X I : Type 0} (texts : TextOf X) (source : TokensOf I (Result (Token X) Fault)) where
   -- an operand, a token that goes on with it, and what stands after that
   pub goes_on : {K : Type 0} (st : K → Part → Stack → State) (k : K) {fits : Stack → Type 0} {a b c d : Reader X I}
-      {o o' : Operand} {t : Token X} (v : GivesOperand text steps can left fits 7 a b o) → Takes text steps can left b c t
-      → ((s : Stack) → transition (have o.level v.part s) (lexeme text t) t.kind ≡ go (st k v.part s))
-      → GivesOn text steps can left st 7 c d o o' → GivesOperand text steps can left fits 7 a d o'
+      {o o' : Operand} {t : Token X} (v : GivesOperand texts source fits 7 a b o) → Takes texts source b c t
+      → ((s : Stack) → transition (have o.level v.part s) (lexeme texts.text t) t.kind ≡ go (st k v.part s))
+      → GivesOn texts source st 7 c d o o' → GivesOperand texts source fits 7 a d o'
   goes_on st k {d = d} {o = o} {o' = o'} v h f n = let j = n.goes k v.part v.keeps in record {
-    bare_part = j.part;
+    part = j.part;
     keeps = j.keeps;
     low = omega (arith, n.level_is);
     ready = n.ready;
     later = omega (arith, v.later, h.later, n.later);
     begins = λ u e. j.begins ∙ v.begins u e;
     leads = λ s r x y. v.leads s r x (step_to (have o.level v.part s) (st k v.part s) h (f s) x
-        (j.leads s x (subst (λ z. Came text steps d (at (have z j.part s)) x) n.level_is y)));
+        (j.leads s x (subst (λ z. Came texts.text source.next_gives d (at (have z j.part s)) x) n.level_is y)));
   }
 
   -- an operand, and what stands in brackets after it
   pub index_on : {fits : Stack → Type 0} {a b c d f : Reader X I} {o inner made : Operand} {t u : Token X}
-      (v : GivesOperand text steps can left fits 7 a b o) → Takes text steps can left b c t
+      (v : GivesOperand texts source fits 7 a b o) → Takes texts source b c t
       → t.kind ≡ kind.Operator sign.LeftBracket
-      → (q : GivesOperand text steps can left (λ s. needed_level s ≡ 0) 0 c d inner) → Takes text steps can left d f u
+      → (q : GivesOperand texts source (λ s. needed_level s ≡ 0) 0 c d inner) → Takes texts source d f u
       → u.kind ≡ kind.Operator sign.RightBracket
       → made.level ≡ 7 → ((p k : Part) → KeepsPart o p → KeepsPart inner k → Builds made (λ z. index z p.tree k.tree)
-      o.start u.place.end) → GivesOperand text steps can left fits 7 a f made
+      o.start u.place.end) → GivesOperand texts source fits 7 a f made
   index_on {f = f} {o = o} {inner = inner} {t = t} {u = u} v h i q k j lv m = record {
-    bare_part = bare_part (λ z. index z v.part.tree q.part.tree) ((v.part.tokens ++ (lexeme text t ∷ []))
-        ++ (q.part.tokens ++ (lexeme text u ∷ [])));
+    part = bare_part (λ z. index z v.part.tree q.part.tree) ((v.part.tokens ++ (lexeme texts.text t ∷ []))
+        ++ (q.part.tokens ++ (lexeme texts.text u ∷ [])));
     keeps = m v.part q.part v.keeps q.keeps _ (starts_more _ (starts_more _ v.keeps.starts))
-        (ends_more (v.part.tokens ++ (lexeme text t ∷ [])) (ends_more q.part.tokens (ends_one (lexeme text u))));
+        (ends_more (v.part.tokens ++ (lexeme texts.text t ∷ [])) (ends_more q.part.tokens
+        (ends_one (lexeme texts.text u))));
     low = omega (arith, lv);
     ready = k.ready;
     later = omega (arith, v.later, h.later, q.later, k.later);
-    begins = λ z e. first_more _ (starts_more (lexeme text t ∷ []) v.keeps.starts) ∙ first_more _ v.keeps.starts
+    begins = λ z e. first_more _ (starts_more (lexeme texts.text t ∷ []) v.keeps.starts) ∙ first_more _ v.keeps.starts
         ∙ v.begins z e;
     leads = λ s r x y. v.leads s r x (step_to (have o.level v.part s)
-        (operand (indexing v.part.tree (v.part.tokens ++ (lexeme text t ∷ [])) s)) h
-        (index_turn o.level v.part s (lexeme text t) t.kind v.low i) x
-        (q.leads (indexing v.part.tree (v.part.tokens ++ (lexeme text t ∷ [])) s) refl x
-        (step_to (have inner.level q.part (indexing v.part.tree (v.part.tokens ++ (lexeme text t ∷ [])) s))
-        (have 7 (bare_part (λ z. index z v.part.tree q.part.tree) ((v.part.tokens ++ (lexeme text t ∷ []))
-        ++ (q.part.tokens ++ (lexeme text u ∷ [])))) s) k
-        (ap (transition (have inner.level q.part (indexing v.part.tree (v.part.tokens ++ (lexeme text t ∷ [])) s))
-        (lexeme text u)) j) x
+        (operand (indexing v.part.tree (v.part.tokens ++ (lexeme texts.text t ∷ [])) s)) h
+        (index_turn o.level v.part s (lexeme texts.text t) t.kind v.low i) x
+        (q.leads (indexing v.part.tree (v.part.tokens ++ (lexeme texts.text t ∷ [])) s) refl x
+        (step_to (have inner.level q.part (indexing v.part.tree (v.part.tokens ++ (lexeme texts.text t ∷ [])) s))
+        (have 7 (bare_part (λ z. index z v.part.tree q.part.tree) ((v.part.tokens ++ (lexeme texts.text t ∷ []))
+        ++ (q.part.tokens ++ (lexeme texts.text u ∷ [])))) s) k
+        (ap (transition (have inner.level q.part (indexing v.part.tree (v.part.tokens ++ (lexeme texts.text t ∷ [])) s))
+        (lexeme texts.text u)) j) x
         (subst
-        (λ z. Came text steps f
+        (λ z. Came texts.text source.next_gives f
         (at (have z (bare_part (λ z. index z v.part.tree q.part.tree)
-        ((v.part.tokens ++ (lexeme text t ∷ [])) ++ (q.part.tokens ++ (lexeme text u ∷ [])))) s)) x) lv y))));
+        ((v.part.tokens ++ (lexeme texts.text t ∷ [])) ++ (q.part.tokens ++ (lexeme texts.text u ∷ [])))) s)) x) lv
+        y))));
   }
 
   -- an operand without a sign is one that binds as tightly as is due
   pub unsigned_reads : (a b : Reader X I) (r : Result Operand Fault) (level : ℕ) → level ≤ 6
       → ((s : Stack) → needed_level s ≡ level → IsPrimary a s)
-      → ReadsOperand text steps can left (λ s. IsPrimary a s) 7 a b r
-      → ReadsOperand text steps can left (λ s. needed_level s ≡ level) level a b r
+      → ReadsOperand texts source (λ s. IsPrimary a s) 7 a b r
+      → ReadsOperand texts source (λ s. needed_level s ≡ level) level a b r
   unsigned_reads a b (Ok o) level l f h = record {
-    bare_part = h.part;
+    part = h.part;
     keeps = h.keeps;
     low = omega (arith, l, h.low);
     ready = h.ready;

@@ -1,6 +1,7 @@
 -- States before the token ahead.
+use Rattle.std.specs.declared.convert.AsStr.{Ghosts as TextOf}
+use Rattle.std.specs.declared.iter.Iterator.{Ghosts as TokensOf}
 use Rattle.std.proofs.Common.{◌≡◌, ℕ, Bool, false, List, Option, Some, Result, ap, ◌∙◌}
-use Rattle.std.specs.Iterator.{Count}
 use Rattle.pc_source.specs.declared.fault.Fault.{Fault}
 use Rattle.pc_token.specs.declared.token.Token.{Token}
 use Rattle.pc_token.specs.declared.token.TokenKind.{TokenKind}
@@ -21,7 +22,8 @@ module _ {X I : Type 0} {text : X → List ℕ} {a : Reader X I} where
   stands_at st next u f = record { unfinished = u; goes = λ t h. f (lexeme text t) t.kind }
 
   -- the same, told otherwise at the token ahead
-  pub stands_so : {st : State} {next : TokenKind → Transition} (next' : TokenKind → Transition) → StandsBefore text a st next
+  pub stands_so : {st : State} {next : TokenKind → Transition} (next' : TokenKind → Transition)
+      → StandsBefore text a st next
       → ((t : Token X) → a.ahead ≡ Some t → next t.kind ≡ next' t.kind) → StandsBefore text a st next'
   stands_so next' x f = record { unfinished = x.unfinished; goes = λ t h. x.goes t h ∙ f t h }
 
@@ -62,14 +64,14 @@ module _ {X I : Type 0} {text : X → List ℕ} {steps : I → Option (Result (T
       → Onward text steps a b (at st) (at st') → LeadsTo text steps b d st' next → LeadsTo text steps a d st next
   reached_after f y = record { behind = y.behind; stands = y.stands; leads = λ o z. f o (y.leads o z) }
 
-  module _ {can : I → Type 0} {left : I → Count} where
-    -- the token ahead was taken
-    pub goes_to : {a b : Reader X I} {t : Token X} {st : State} {next : TokenKind → Transition} (s : State)
-        → StandsBefore text a st next → Takes text steps can left a b t → next t.kind ≡ go s
-        → Onward text steps a b (at st) (at s)
-    goes_to {t = t} {st = st} s x h e = step_to st s h (x.goes t h.here ∙ e)
+module _ {X I : Type 0} {texts : TextOf X} {source : TokensOf I (Result (Token X) Fault)} where
+  -- the token ahead was taken
+  pub goes_to : {a b : Reader X I} {t : Token X} {st : State} {next : TokenKind → Transition} (s : State)
+      → StandsBefore texts.text a st next → Takes texts source a b t → next t.kind ≡ go s
+      → Onward texts.text source.next_gives a b (at st) (at s)
+  goes_to {t = t} {st = st} s x h e = step_to st s h (x.goes t h.here ∙ e)
 
-    pub reaches_to : {a b d : Reader X I} {t : Token X} {st : State} {next : TokenKind → Transition} (s : State)
-        (x : LeadsTo text steps a b st next) → Takes text steps can left b d t → next t.kind ≡ go s
-        → Onward text steps a d (at st) (at s)
-    reaches_to s x h e o y = x.leads o (goes_to s x.stands h e o y)
+  pub reaches_to : {a b d : Reader X I} {t : Token X} {st : State} {next : TokenKind → Transition} (s : State)
+      (x : LeadsTo texts.text source.next_gives a b st next) → Takes texts source b d t → next t.kind ≡ go s
+      → Onward texts.text source.next_gives a d (at st) (at s)
+  reaches_to s x h e o y = x.leads o (goes_to s x.stands h e o y)

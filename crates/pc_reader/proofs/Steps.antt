@@ -1,7 +1,8 @@
 -- Steps of the machine at a token that was taken.
+use Rattle.std.specs.declared.convert.AsStr.{Ghosts as TextOf}
+use Rattle.std.specs.declared.iter.Iterator.{Ghosts as TokensOf}
 use Rattle.std.proofs.Common.{◌≡◌, ℕ, ◌≤◌, ◌<◌, true, false, List, Option, Some, None, Result, Ok, Err, MatchResult}
 use Rattle.std.proofs.Common.{if◌then◌else◌, refl, arith, ap, sym, ◌∙◌, subst}
-use Rattle.std.specs.Iterator.{Count}
 use Rattle.pc_source.specs.declared.fault.Fault.{Fault}
 use Rattle.pc_source.specs.declared.fault.Fault.TheVariants as fault
 use Rattle.pc_token.specs.declared.token.Token.{Token}
@@ -9,12 +10,13 @@ use Rattle.pc_token.specs.declared.token.TokenKind.{TokenKind}
 use Rattle.pc_token.specs.Lexeme.{Lexeme}
 use Rattle.pc_tree.specs.declared.tree.BinaryOperator.TheVariants.{Add, Sub, Mul, FloorDiv, Mod}
 use Rattle.pc_tree.specs.Tree.{Module}
-use Rattle.pc_grammar.specs.Machine.{Reading, at, lost, short, stop_at, transition, arrive}
+use Rattle.pc_grammar.specs.Machine.{at, short, stop_at, transition, arrive}
 use Rattle.pc_grammar.specs.Machine.Kinds.{same_kind, arithmetic, comparison, both, either, Link, linking, denying}
 use Rattle.pc_grammar.specs.Machine.Kinds.{identifying, Follow, link, follow_of}
 use Rattle.pc_grammar.specs.Machine.States.{Part, minus, denial, Stack, whole, joining, applying, grouping, listing}
 use Rattle.pc_grammar.specs.Machine.States.{indexing, naming, keying, valuing, State, stuck, go, on}
-use Rattle.pc_grammar.specs.Machine.Expressions.{own_of, right_of, own_of_link, left_of_link, prefix_level, needed_level}
+use Rattle.pc_grammar.specs.Machine.Expressions.{own_of, own_of_link, left_of_link}
+use Rattle.pc_grammar.specs.Machine.Expressions.{needed_level}
 use Rattle.pc_grammar.specs.Machine.Expressions.{reduce}
 use Rattle.pc_grammar.specs.Machine.Expressions.{linked, have_turn}
 use Rattle.pc_reader.specs.declared.reader.Reader.{Reader}
@@ -26,19 +28,20 @@ use Rattle.pc_reader.proofs.SameKind.{same_is}
 use Rattle.pc_reader.proofs.Streams.{blame_memory, run_end, same_step, at_end}
 
 -- the token that was taken leads from one state to another
-pub step_to : {X I : Type 0} {text : X → List ℕ} {steps : I → Option (Result (Token X) Fault) → I → Type 0}
-    {can : I → Type 0} {left : I → Count} {a b : Reader X I} {t : Token X}
-    → (st st' : State) → Takes text steps can left a b t → transition st (lexeme text t) t.kind ≡ go st'
-    → Onward text steps a b (at st) (at st')
-step_to {text = text} {steps = steps} {a = a} {b = b} {t = t} st st' h e o x =
-    h.leads (at st) o (subst (λ z. Came text steps b z o) (sym (ap (λ z. arrive z (lexeme text t)) e)) x)
+pub step_to : {X I : Type 0} {texts : TextOf X} {source : TokensOf I (Result (Token X) Fault)} {a b : Reader X I}
+    {t : Token X}
+    → (st st' : State) → Takes texts source a b t → transition st (lexeme texts.text t) t.kind ≡ go st'
+    → Onward texts.text source.next_gives a b (at st) (at st')
+step_to {texts = texts} {source = source} {a = a} {b = b} {t = t} st st' h e o x =
+    h.leads (at st) o (subst (λ z. Came texts.text source.next_gives b z o)
+    (sym (ap (λ z. arrive z (lexeme texts.text t)) e)) x)
 
 -- the token that was passed over is the one that was ahead
-pub skipped : {X I : Type 0} {text : X → List ℕ} {steps : I → Option (Result (Token X) Fault) → I → Type 0}
-    {can : I → Type 0} {left : I → Count} {a b : Reader X I} {t : Token X}
-    → a.ahead ≡ Some t → Skips text steps can left a b → Takes text steps can left a b t
-skipped {X = X} {text = text} {steps = steps} {can = can} {left = left} {a = a} {b = b} h k =
-    subst (λ z. Takes text steps can left a b z) (same (sym k.takes.here ∙ h)) k.takes
+pub skipped : {X I : Type 0} {texts : TextOf X} {source : TokensOf I (Result (Token X) Fault)} {a b : Reader X I}
+    {t : Token X}
+    → a.ahead ≡ Some t → Skips texts source a b → Takes texts source a b t
+skipped {X = X} {texts = texts} {source = source} {a = a} {b = b} h k =
+    subst (λ z. Takes texts source a b z) (same (sym k.takes.here ∙ h)) k.takes
   where
     same : {v w : Token X} → Some v ≡ Some w → v ≡ w
     same q = cc
@@ -58,7 +61,8 @@ alike {X = X} text steps a st st' u u' f o x = by_ahead a.ahead refl
 -- where a state waits for one kind of token
 pub needs : {X I : Type 0} {text : X → List ℕ} {kind : TokenKind} {st : State} {a : Reader X I} (next : Lexeme → State)
     → stop_at st ≡ short
-    → ((t : Lexeme) (k : TokenKind) → transition st t k ≡ on (same_kind k kind) (next t) stuck) → NeedsKind text kind st a
+    → ((t : Lexeme) (k : TokenKind) → transition st t k ≡ on (same_kind k kind) (next t) stuck)
+    → NeedsKind text kind st a
 needs {text = text} {kind = kind} next u f = record {
   unfinished = u;
   stuck_at = λ t h e. f (lexeme text t) t.kind

@@ -1,7 +1,8 @@
 -- Fixed words, as the machine reads them.
+use Rattle.std.specs.declared.convert.AsStr.{Ghosts as TextOf}
+use Rattle.std.specs.declared.iter.Iterator.{Ghosts as TokensOf}
 use Rattle.std.proofs.Common.{◌≡◌, ℕ, true, false, List, ◌∷◌, Option, Some, None, Result, Ok, Err, MatchResult, drop}
 use Rattle.std.proofs.Common.{refl, ap, sym, ◌∙◌, subst}
-use Rattle.std.specs.Iterator.{Count}
 use Rattle.pc_source.specs.declared.fault.Fault.{Fault}
 use Rattle.pc_token.specs.declared.token.Token.{Token}
 use Rattle.pc_token.specs.declared.token.TokenKind.{TokenKind}
@@ -34,26 +35,26 @@ module _ {X I : Type 0} {text : X → List ℕ} {a : Reader X I} where
   pub kind_due : (k : TokenKind) (ws : List Fixed) (next : State) → NeedsKind text k (fixed (a_kind k) ws next) a
   kind_due k ws next = needs (λ t. due ws next) refl (λ t i. refl)
 
-module _ {X I : Type 0} {text : X → List ℕ} {steps : I → Option (Result (Token X) Fault) → I → Type 0}
-    {can : I → Type 0} {left : I → Count} {a b : Reader X I} {t : Token X} where
-  pub form_read : {form : List ℕ} → TakesForm text steps can left form a b t → (ws : List Fixed) (next : State)
-      → Onward text steps a b (at (fixed (a_form form) ws next)) (at (due ws next))
+module _ {X I : Type 0} {texts : TextOf X} {source : TokensOf I (Result (Token X) Fault)} {a b : Reader X I}
+    {t : Token X} where
+  pub form_read : {form : List ℕ} → TakesForm texts source form a b t → (ws : List Fixed) (next : State)
+      → Onward texts.text source.next_gives a b (at (fixed (a_form form) ws next)) (at (due ws next))
   form_read {form = form} f ws next = step_to (fixed (a_form form) ws next) (due ws next) f.takes
       (ap (λ z. on z (due ws next) stuck) f.is)
 
-  pub kind_read : (k : TokenKind) → Takes text steps can left a b t → t.kind ≡ k → (ws : List Fixed) (next : State)
-      → Onward text steps a b (at (fixed (a_kind k) ws next)) (at (due ws next))
+  pub kind_read : (k : TokenKind) → Takes texts source a b t → t.kind ≡ k → (ws : List Fixed) (next : State)
+      → Onward texts.text source.next_gives a b (at (fixed (a_kind k) ws next)) (at (due ws next))
   kind_read k h e ws next = step_to (fixed (a_kind k) ws next) (due ws next) h (meets k t.kind (due ws next) e)
 
 -- a name of this form is ahead, and is taken
-pub takes_form : {X I : Type 0} (text : X → List ℕ) (steps : I → Option (Result (Token X) Fault) → I → Type 0)
-    (can : I → Type 0) (left : I → Count) (a b : Reader X I) (form : List ℕ) → IsFormAhead text form a.ahead ≡ true
+pub takes_form : {X I : Type 0} (texts : TextOf X) (source : TokensOf I (Result (Token X) Fault)) (a b : Reader X I)
+    (form : List ℕ) → IsFormAhead texts.text form a.ahead ≡ true
     → (r : Result (Token X) Fault)
-    → MatchResult r (λ t. Takes text steps can left a b t) (λ e.
-    Blames e (λ o. (z : Reading) → (a.ahead ≡ None → stop z ≡ short) → Came text steps a z o))
-    → ReadsForm text steps can left form a b r
-takes_form text steps can left a b form seen (Ok t) x = record { takes = x; is = form_seen text form seen x.here }
-takes_form text steps can left a b form seen (Err e) x = blame (λ o w. λ st n. w (at st) (λ q. n.unfinished)) x
+    → MatchResult r (λ t. Takes texts source a b t) (λ e.
+    Blames e (λ o. (z : Reading) → (a.ahead ≡ None → stop z ≡ short) → Came texts.text source.next_gives a z o))
+    → ReadsForm texts source form a b r
+takes_form texts source a b form seen (Ok t) x = record { takes = x; is = form_seen texts.text form seen x.here }
+takes_form texts source a b form seen (Err e) x = blame (λ o w. λ st n. w (at st) (λ q. n.unfinished)) x
 
 -- the next of the kinds that are left
 pub next_due : {X I : Type 0} {text : X → List ℕ} {a : Reader X I} (ks : List TokenKind) (i : ℕ) (k : TokenKind)

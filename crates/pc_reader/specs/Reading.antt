@@ -1,4 +1,6 @@
 -- Results of the functions of the reader. A refusal is the machine's if it is the answer to which the tokens lead.
+use Rattle.std.specs.declared.convert.AsStr.{Ghosts as TextOf}
+use Rattle.std.specs.declared.iter.Iterator.{Ghosts as TokensOf}
 use Rattle.std.specs.Prelude.{ℕ, ◌≡◌, ◌+◌, ◌<◌, Bool, false, List, [], ◌∷◌, Option, Some, None, Result, Ok, Err}
 use Rattle.std.specs.Iterator.{Count, size, IsFinite}
 use Rattle.pc_source.specs.declared.fault.Fault.{Fault}
@@ -108,14 +110,13 @@ pub record NeedsKind {X I : Type 0} (text : X → List ℕ) (kind : TokenKind) (
   pub stuck_at : (t : Token X) → a.ahead ≡ Some t → same_kind t.kind kind ≡ false
       → transition st (lexeme text t) t.kind ≡ stuck
 
-module _ {X I : Type 0} (text : X → List ℕ) (steps : I → Option (Result (Token X) Fault) → I → Type 0)
-    (can : I → Type 0) (left : I → Count) where
+module _ {X I : Type 0} (texts : TextOf X) (source : TokensOf I (Result (Token X) Fault)) where
   -- the token ahead was taken
   pub record Takes (a b : Reader X I) (t : Token X) : Type 0 where
     pub here : a.ahead ≡ Some t
-    pub ready : IsReady can left b
-    pub later : left_in left b < left_in left a
-    pub leads : (r : Reading) → Onward text steps a b r (step r (lexeme text t))
+    pub ready : IsReady source.can_next source.remaining b
+    pub later : left_in source.remaining b < left_in source.remaining a
+    pub leads : (r : Reading) → Onward texts.text source.next_gives a b r (step r (lexeme texts.text t))
 
   -- the token ahead was skipped
   pub record Skips (a b : Reader X I) : Type 0 where

@@ -29,7 +29,7 @@ impl<X: AsStr + Drop, I: Iterator<Item = Result<Token<X>, Fault>> + Drop> Reader
     /// Reads a name, a number, a string, or a keyword that is a value.
     fn single(&mut self, alloc: Global) -> Result<Operand, Fault>
         requires { IsReady I.can_next I.remaining self.old }
-        ensures reads { ReadsOperand X.text I.next_gives I.can_next I.remaining
+        ensures reads { ReadsOperand X.AsStr I.Iterator
             (λ s. IsSingle self.old s) 7 self.old self.new result }
         ensures level { IfOk result (λ o. o.level ≡ 7) }
     {
@@ -89,7 +89,7 @@ impl<X: AsStr + Drop, I: Iterator<Item = Result<Token<X>, Fault>> + Drop> Reader
     pub fn operators(&mut self, alloc: Global, level: u8) -> Result<Operand, Fault>
         requires ready { IsReady I.can_next I.remaining self.old }
         requires level { level ≤ 6 }
-        ensures reads { ReadsOperand X.text I.next_gives I.can_next I.remaining
+        ensures reads { ReadsOperand X.AsStr I.Iterator
             (λ s. needed_level s ≡ level) level self.old self.new result }
         ensures over { IfOk result (λ o. NextIs (Over level o.level) self.new.ahead) }
         ensures undotted { IfOk result (λ o. NextIs (Undotted o.level) self.new.ahead) }
@@ -111,7 +111,7 @@ impl<X: AsStr + Drop, I: Iterator<Item = Result<Token<X>, Fault>> + Drop> Reader
     fn prefixed(&mut self, alloc: Global, level: u8) -> Result<Operand, Fault>
         requires ready { IsReady I.can_next I.remaining self.old }
         requires level { level ≤ 6 }
-        ensures reads { ReadsOperand X.text I.next_gives I.can_next I.remaining
+        ensures reads { ReadsOperand X.AsStr I.Iterator
             (λ s. needed_level s ≡ level) level self.old self.new result }
         ensures undotted { IfOk result (λ o. NextIs (Undotted o.level) self.new.ahead) }
     {
@@ -130,7 +130,7 @@ impl<X: AsStr + Drop, I: Iterator<Item = Result<Token<X>, Fault>> + Drop> Reader
     fn signed(&mut self, alloc: Global, level: u8) -> Result<Operand, Fault>
         requires ready { IsReady I.can_next I.remaining self.old }
         requires level { level ≤ 6 }
-        ensures reads { ReadsOperand X.text I.next_gives I.can_next I.remaining
+        ensures reads { ReadsOperand X.AsStr I.Iterator
             (λ s. needed_level s ≡ level) level self.old self.new result }
         ensures undotted { IfOk result (λ o. NextIs (Undotted o.level) self.new.ahead) }
     {
@@ -150,7 +150,7 @@ impl<X: AsStr + Drop, I: Iterator<Item = Result<Token<X>, Fault>> + Drop> Reader
     #[cycle(expressions)]
     fn postfix(&mut self, alloc: Global) -> Result<Operand, Fault>
         requires { IsReady I.can_next I.remaining self.old }
-        ensures reads { ReadsOperand X.text I.next_gives I.can_next I.remaining
+        ensures reads { ReadsOperand X.AsStr I.Iterator
             (λ s. IsPrimary self.old s) 7 self.old self.new result }
         ensures level { IfOk result (λ o. o.level ≡ 7) }
         ensures undotted { IfOk result (λ o. NextIs (Undotted 7) self.new.ahead) }
@@ -178,7 +178,7 @@ impl<X: AsStr + Drop, I: Iterator<Item = Result<Token<X>, Fault>> + Drop> Reader
     #[cycle(expressions)]
     fn atom(&mut self, alloc: Global) -> Result<Operand, Fault>
         requires { IsReady I.can_next I.remaining self.old }
-        ensures reads { ReadsOperand X.text I.next_gives I.can_next I.remaining
+        ensures reads { ReadsOperand X.AsStr I.Iterator
             (λ s. IsPrimary self.old s) 7 self.old self.new result }
         ensures level { IfOk result (λ o. o.level ≡ 7) }
     {
@@ -204,7 +204,7 @@ impl<X: AsStr + Drop, I: Iterator<Item = Result<Token<X>, Fault>> + Drop> Reader
     #[cycle(expressions)]
     fn group(&mut self, alloc: Global) -> Result<Operand, Fault>
         requires { IsReady I.can_next I.remaining self.old }
-        ensures reads { ReadsOperand X.text I.next_gives I.can_next I.remaining
+        ensures reads { ReadsOperand X.AsStr I.Iterator
             (λ s. IsAhead (kind.Operator sign.LeftParenthesis) self.old.ahead ≡ true) 7 self.old self.new result }
         ensures level { IfOk result (λ o. o.level ≡ 7) }
     {
@@ -229,7 +229,7 @@ impl<X: AsStr + Drop, I: Iterator<Item = Result<Token<X>, Fault>> + Drop> Reader
     #[cycle(expressions)]
     fn items(&mut self, alloc: Global, some: Items, close: Operator) -> Result<Listed, Fault>
         requires { IsReady I.can_next I.remaining self.old }
-        ensures { ReadsItems X.text I.next_gives I.can_next I.remaining close self.old self.new some result }
+        ensures { ReadsItems X.AsStr I.Iterator close self.old self.new some result }
     {
         let mut items = some;
         loop {
@@ -257,7 +257,7 @@ impl<X: AsStr + Drop, I: Iterator<Item = Result<Token<X>, Fault>> + Drop> Reader
     #[cycle(expressions)]
     fn dict(&mut self, alloc: Global) -> Result<Operand, Fault>
         requires { IsReady I.can_next I.remaining self.old }
-        ensures reads { ReadsOperand X.text I.next_gives I.can_next I.remaining
+        ensures reads { ReadsOperand X.AsStr I.Iterator
             (λ s. IsAhead (kind.Operator sign.LeftBrace) self.old.ahead ≡ true) 7 self.old self.new result }
         ensures level { IfOk result (λ o. o.level ≡ 7) }
     {
@@ -285,7 +285,7 @@ impl<X: AsStr + Drop, I: Iterator<Item = Result<Token<X>, Fault>> + Drop> Reader
     fn call(&mut self, alloc: Global, callee: Operand) -> Result<Operand, Fault>
         requires ready { IsReady I.can_next I.remaining self.old }
         requires depth { callee.depth ≤ 65 }
-        ensures { ReadsOn X.text I.next_gives I.can_next I.remaining
+        ensures { ReadsOn X.AsStr I.Iterator
             (λ t p s. item_due (in_call p.tree) no_exprs (p.tokens ++ (t ∷ [])) s) 7 self.old self.new callee result }
     {
         let mut items = Items::new(alloc);
@@ -316,7 +316,7 @@ impl<X: AsStr + Drop, I: Iterator<Item = Result<Token<X>, Fault>> + Drop> Reader
     #[cycle(expressions)]
     fn keywords(&mut self, alloc: Global, first: Name) -> Result<Arguments, Fault>
         requires { IsReady I.can_next I.remaining self.old }
-        ensures { ReadsKeywords X.text I.next_gives I.can_next I.remaining self.old self.new first result }
+        ensures { ReadsKeywords X.AsStr I.Iterator self.old self.new first result }
     {
         let mut keywords = Keywords::new(alloc);
         let mut name = first;

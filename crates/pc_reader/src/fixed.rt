@@ -12,7 +12,7 @@ impl<X: AsStr + Drop, I: Iterator<Item = Result<Token<X>, Fault>> + Drop> Reader
     /// Takes a name of this form. Fails as `misfit` does if another token is ahead.
     pub fn expect_name(&mut self, form: &str) -> Result<Token<X>, Fault>
         requires { IsReady I.can_next I.remaining self.old }
-        ensures { ReadsForm X.text I.next_gives I.can_next I.remaining form.now self.old self.new result }
+        ensures { ReadsForm X.AsStr I.Iterator form.now self.old self.new result }
     {
         if self.sees_name(form) {
             self.take()
@@ -24,7 +24,7 @@ impl<X: AsStr + Drop, I: Iterator<Item = Result<Token<X>, Fault>> + Drop> Reader
     /// Takes tokens of these kinds, in order. Fails as `misfit` does at the first that is not of its kind.
     pub fn fixed(&mut self, kinds: &[TokenKind]) -> Result<(), Fault>
         requires { IsReady I.can_next I.remaining self.old }
-        ensures { ReadsFixed X.text I.next_gives I.can_next I.remaining (kinds_of kinds.now) self.old self.new result }
+        ensures { ReadsFixed X.AsStr I.Iterator (kinds_of kinds.now) self.old self.new result }
     {
         for kind in kinds {
             self.expect(*kind)?;

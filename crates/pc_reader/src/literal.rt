@@ -75,7 +75,7 @@ impl<X: AsStr + Drop, I: Iterator<Item = Result<Token<X>, Fault>> + Drop> Reader
     /// Reads a literal: `-` and a whole number, or a single token. Fails as `misfit` does if no literal is ahead.
     fn literal(&mut self, alloc: Global) -> Result<Literal, Fault>
         requires { IsReady I.can_next I.remaining self.old }
-        ensures { ReadsLiteral X.text I.next_gives I.can_next I.remaining self.old self.new result }
+        ensures { ReadsLiteral X.AsStr I.Iterator self.old self.new result }
     {
         if self.sees(TokenKind::Operator(Operator::Minus)) {
             let minus = self.take()?;
@@ -91,7 +91,7 @@ impl<X: AsStr + Drop, I: Iterator<Item = Result<Token<X>, Fault>> + Drop> Reader
     /// Reads the whole number after a `-` that begins at byte `start`. Fails as `misfit` does if no number is ahead.
     fn negative(&mut self, alloc: Global, start: usize) -> Result<Literal, Fault>
         requires { IsReady I.can_next I.remaining self.old }
-        ensures { ReadsNegative X.text I.next_gives I.can_next I.remaining self.old self.new start result }
+        ensures { ReadsNegative X.AsStr I.Iterator self.old self.new start result }
     {
         let number = self.expect(TokenKind::Int)?;
         let place = Place {
@@ -108,7 +108,7 @@ impl<X: AsStr + Drop, I: Iterator<Item = Result<Token<X>, Fault>> + Drop> Reader
     /// Reads `=` and a literal, if `=` is ahead. Fails as `misfit` does if no literal follows it.
     pub fn default(&mut self, alloc: Global) -> Result<Option<Literal>, Fault>
         requires { IsReady I.can_next I.remaining self.old }
-        ensures { ReadsDefault X.text I.next_gives I.can_next I.remaining self.old self.new result }
+        ensures { ReadsDefault X.AsStr I.Iterator self.old self.new result }
     {
         if !self.sees(TokenKind::Operator(Operator::Equal)) {
             return Ok(None);

@@ -100,7 +100,7 @@ impl<X: AsStr + Drop, I: Iterator<Item = Result<Token<X>, Fault>> + Drop> Reader
     /// Reads a name. Fails as `misfit` does if another token is ahead.
     pub fn name(&mut self, alloc: Global) -> Result<Name, Fault>
         requires { IsReady I.can_next I.remaining self.old }
-        ensures { ReadsName X.text I.next_gives I.can_next I.remaining self.old self.new result }
+        ensures { ReadsName X.AsStr I.Iterator self.old self.new result }
     {
         let Some(token) = &self.ahead else {
             return Err(self.misfit());

@@ -71,7 +71,7 @@ impl<X: AsStr + Drop, I: Iterator<Item = Result<Token<X>, Fault>> + Drop> Reader
     /// only that token and returns `None`.
     pub(crate) fn infix(&mut self, link: Link) -> Result<Option<Infix>, Fault>
         requires { IsReady I.can_next I.remaining self.old }
-        ensures { ReadsInfix X.text I.next_gives I.can_next I.remaining (link_view link) self.old self.new result }
+        ensures { ReadsInfix X.AsStr I.Iterator (link_view link) self.old self.new result }
     {
         self.take()?;
         match link {
@@ -88,7 +88,7 @@ impl<X: AsStr + Drop, I: Iterator<Item = Result<Token<X>, Fault>> + Drop> Reader
     pub(crate) fn none_behind(&mut self, alloc: Global, operand: Operand) -> Result<Operand, Fault>
         requires ready { IsReady I.can_next I.remaining self.old }
         requires depth { operand.depth ≤ 65 }
-        ensures { ReadsOn X.text I.next_gives I.can_next I.remaining
+        ensures { ReadsOn X.AsStr I.Iterator
             (λ t p s. identified p (t ∷ []) s) 3 self.old self.new operand result }
     {
         if self.sees(TokenKind::Keyword(Keyword::Not)) {
@@ -103,7 +103,7 @@ impl<X: AsStr + Drop, I: Iterator<Item = Result<Token<X>, Fault>> + Drop> Reader
     /// Takes all signs of one kind that are ahead and returns the bytes where they begin.
     pub(crate) fn signs(&mut self, alloc: Global, prefix: Prefix) -> Result<Vec<usize>, Fault>
         requires { IsReady I.can_next I.remaining self.old }
-        ensures reads { ReadsSigns X.text I.next_gives I.can_next I.remaining
+        ensures reads { ReadsSigns X.AsStr I.Iterator
             (prefix_of prefix) self.old self.new result }
         ensures over { IfOk result (λ _. IsAhead (prefix_kind (prefix_of prefix)) self.new.ahead ≡ false) }
     {
@@ -122,7 +122,7 @@ impl<X: AsStr + Drop, I: Iterator<Item = Result<Token<X>, Fault>> + Drop> Reader
     pub(crate) fn member(&mut self, alloc: Global, operand: Operand) -> Result<Operand, Fault>
         requires ready { IsReady I.can_next I.remaining self.old }
         requires depth { operand.depth ≤ 65 }
-        ensures { ReadsOn X.text I.next_gives I.can_next I.remaining
+        ensures { ReadsOn X.AsStr I.Iterator
             (λ t p s. dotted p (t ∷ []) s) 7 self.old self.new operand result }
     {
         let name = self.name(alloc)?;

@@ -83,7 +83,7 @@ impl<X: AsStr + Drop, I: Iterator<Item = Result<Token<X>, Fault>> + Drop> Reader
     #[inline(always)]
     pub fn take(&mut self) -> Result<Token<X>, Fault>
         requires { IsReady I.can_next I.remaining self.old }
-        ensures { MatchResult result (λ t. Takes X.text I.next_gives I.can_next I.remaining self.old self.new t)
+        ensures { MatchResult result (λ t. Takes X.AsStr I.Iterator self.old self.new t)
             (λ e. Blames e (λ o. (r : Reading) → (self.old.ahead ≡ None → stop r ≡ short)
             → Came X.text I.next_gives self.old r o)) }
     {
@@ -108,7 +108,7 @@ impl<X: AsStr + Drop, I: Iterator<Item = Result<Token<X>, Fault>> + Drop> Reader
     #[inline(always)]
     pub(crate) fn skip(&mut self) -> Result<(), Fault>
         requires { IsReady I.can_next I.remaining self.old }
-        ensures { MatchResult result (λ _. Skips X.text I.next_gives I.can_next I.remaining self.old self.new)
+        ensures { MatchResult result (λ _. Skips X.AsStr I.Iterator self.old self.new)
             (λ e. Blames e (λ o. (r : Reading) → (self.old.ahead ≡ None → stop r ≡ short)
             → Came X.text I.next_gives self.old r o)) }
     {
@@ -172,7 +172,7 @@ impl<X: AsStr + Drop, I: Iterator<Item = Result<Token<X>, Fault>> + Drop> Reader
     #[inline(always)]
     pub fn expect(&mut self, kind: TokenKind) -> Result<Token<X>, Fault>
         requires { IsReady I.can_next I.remaining self.old }
-        ensures taken { MatchResult result (λ t. Takes X.text I.next_gives I.can_next I.remaining self.old self.new t)
+        ensures taken { MatchResult result (λ t. Takes X.AsStr I.Iterator self.old self.new t)
             (λ e. Blames e (λ o. (st : State) → NeedsKind X.text kind st self.old
             → Came X.text I.next_gives self.old (at st) o)) }
         ensures kind { IfOk result (λ t. t.kind ≡ kind) }

@@ -1,6 +1,7 @@
 -- Results of the functions that read annotations.
-use Rattle.std.specs.Prelude.{ℕ, ◌≡◌, ◌≤◌, ◌<◌, List, [], ◌∷◌, Option, Result, MatchResult, min}
-use Rattle.std.specs.Iterator.{Count}
+use Rattle.std.specs.declared.convert.AsStr.{Ghosts as TextOf}
+use Rattle.std.specs.declared.iter.Iterator.{Ghosts as TokensOf}
+use Rattle.std.specs.Prelude.{ℕ, ◌≡◌, ◌≤◌, ◌<◌, List, [], ◌∷◌, Result, MatchResult, min}
 use Rattle.pc_source.specs.declared.fault.Fault.{Fault}
 use Rattle.pc_source.specs.declared.place.Place.{Place}
 use Rattle.pc_token.specs.declared.token.Token.{Token}
@@ -45,38 +46,38 @@ MakesAnn o make start end = (ts : List Lexeme) → Starts ts start → Ends ts e
 abbrev pub Opened : Type 0
 Opened = (head : Name) (tokens : List Lexeme) (parts : Anns) (before : List Lexeme) (s : AnnStack) → State
 
-module _ {X I : Type 0} (text : X → List ℕ) (steps : I → Option (Result (Token X) Fault) → I → Type 0)
-    (can : I → Type 0) (left : I → Count) where
+module _ {X I : Type 0} (texts : TextOf X) (source : TokensOf I (Result (Token X) Fault)) where
   -- an annotation was read
   pub record GivesUnion (a b : Reader X I) (o : Annotation) : Type 0 where
     pub tree : Ann
     pub tokens : List Lexeme
     pub keeps : KeepsAnn o tree tokens
-    pub ready : IsReady can left b
-    pub later : left_in left b < left_in left a
+    pub ready : IsReady source.can_next source.remaining b
+    pub later : left_in source.remaining b < left_in source.remaining a
     pub leads : (s : AnnStack)
-        → Onward text steps a b (at (part_due no_anns [] s)) (at (part_read tree tokens no_anns [] s))
+        → Onward texts.text source.next_gives a b (at (part_due no_anns [] s)) (at (part_read tree tokens no_anns [] s))
 
   -- an annotation was read, or the refusal is the machine's
   abbrev pub ReadsUnion : Reader X I → Reader X I → Result Annotation Fault → Type 0
   ReadsUnion a b r = MatchResult r (λ o. GivesUnion a b o)
-      (λ e. Blames e (λ x. (s : AnnStack) → Came text steps a (at (part_due no_anns [] s)) x))
+      (λ e. Blames e (λ x. (s : AnnStack) → Came texts.text source.next_gives a (at (part_due no_anns [] s)) x))
 
   -- a part was read, after any other parts of its union
   pub record GivesPart (a b : Reader X I) (o : Annotation) : Type 0 where
     pub tree : Ann
     pub tokens : List Lexeme
     pub keeps : KeepsAnn o tree tokens
-    pub ready : IsReady can left b
-    pub later : left_in left b < left_in left a
+    pub ready : IsReady source.can_next source.remaining b
+    pub later : left_in source.remaining b < left_in source.remaining a
     pub leads : (parts : Anns) (before : List Lexeme) (s : AnnStack)
-        → Onward text steps a b (at (part_due parts before s)) (at (part_read tree tokens parts before s))
+        → Onward texts.text source.next_gives a b (at (part_due parts before s))
+        (at (part_read tree tokens parts before s))
 
   -- a part was read, or the refusal is the machine's
   abbrev pub ReadsPart : Reader X I → Reader X I → Result Annotation Fault → Type 0
   ReadsPart a b r = MatchResult r (λ o. GivesPart a b o)
       (λ e. Blames e (λ x. (parts : Anns) (before : List Lexeme) (s : AnnStack)
-      → Came text steps a (at (part_due parts before s)) x))
+      → Came texts.text source.next_gives a (at (part_due parts before s)) x))
 
   -- the brackets after a name were read, after these tokens of the part
   pub record AppliesOn (from : Opened) (a b : Reader X I) (o : Annotation) (head : Name)
@@ -85,12 +86,13 @@ module _ {X I : Type 0} (text : X → List ℕ) (steps : I → Option (Result (T
     pub tokens : List Lexeme
     pub keeps : KeepsAnn o tree tokens
     pub leads : (parts : Anns) (before : List Lexeme) (s : AnnStack)
-        → Onward text steps a b (at (from head ts parts before s)) (at (part_read tree tokens parts before s))
+        → Onward texts.text source.next_gives a b (at (from head ts parts before s))
+        (at (part_read tree tokens parts before s))
 
   -- the brackets after a name were read, whatever the tokens of the part that begin with the name
   pub record GivesApplied (from : Opened) (a b : Reader X I) (head : RustName) (o : Annotation) : Type 0 where
-    pub ready : IsReady can left b
-    pub later : left_in left b < left_in left a
+    pub ready : IsReady source.can_next source.remaining b
+    pub later : left_in source.remaining b < left_in source.remaining a
     pub applies : (ts : List Lexeme) → Starts ts head.place.start → AppliesOn from a b o (name_of head) ts
 
   -- the brackets after a name were read, or the refusal is the machine's
@@ -98,7 +100,7 @@ module _ {X I : Type 0} (text : X → List ℕ) (steps : I → Option (Result (T
   ReadsApplied from a b head r = MatchResult r (λ o. GivesApplied from a b head o)
       (λ e. Blames e (λ x. (ts : List Lexeme) → Starts ts head.place.start
       → (parts : Anns) (before : List Lexeme) (s : AnnStack)
-      → Came text steps a (at (from (name_of head) ts parts before s)) x))
+      → Came texts.text source.next_gives a (at (from (name_of head) ts parts before s)) x))
 
   -- parts were read so far, each followed by `|`
   pub record PartsSoFar (a b : Reader X I) (now : Annotations) (start : ℕ) : Type 0 where
@@ -108,7 +110,8 @@ module _ {X I : Type 0} (text : X → List ℕ) (steps : I → Option (Result (T
     pub keeps : KeepsAnns now (more_anns first rest)
     pub starts : Starts tokens start
     pub leads : (s : AnnStack)
-        → Onward text steps a b (at (part_due no_anns [] s)) (at (part_due (more_anns first rest) tokens s))
+        → Onward texts.text source.next_gives a b (at (part_due no_anns [] s))
+        (at (part_due (more_anns first rest) tokens s))
 
   -- arguments were read so far, each followed by a comma
   pub record ArgumentsSoFar (a b : Reader X I) (now : Annotations) (head : RustName) (ts : List Lexeme) : Type 0 where
@@ -117,5 +120,5 @@ module _ {X I : Type 0} (text : X → List ℕ) (steps : I → Option (Result (T
     pub keeps : KeepsAnns now arguments
     pub starts : Starts tokens head.place.start
     pub leads : (parts : Anns) (before : List Lexeme) (s : AnnStack)
-        → Onward text steps a b (at (argument_due (name_of head) ts parts before s))
+        → Onward texts.text source.next_gives a b (at (argument_due (name_of head) ts parts before s))
         (at (part_due no_anns [] (ann_inside (name_of head) arguments tokens parts before s)))

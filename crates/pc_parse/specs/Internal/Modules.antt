@@ -1,8 +1,9 @@
 -- Results of the functions that read a module.
-use Rattle.std.specs.Prelude.{ℕ, ◌≡◌, ◌<◌, ◌&&◌, false, List, [], ◌∷◌, ◌++◌, map, Option, Some, Result, Ok, MatchResult}
+use Rattle.std.specs.declared.convert.AsStr.{Ghosts as TextOf}
+use Rattle.std.specs.declared.iter.Iterator.{Ghosts as TokensOf}
+use Rattle.std.specs.Prelude.{ℕ, ◌≡◌, ◌<◌, ◌&&◌, false, List, [], ◌∷◌, ◌++◌, map, Some, Result, Ok, MatchResult}
 use Rattle.std.specs.Prelude.{Vec, codes, bytes_eq}
 use Rattle.std.specs.declared.alloc.Global.{Global}
-use Rattle.std.specs.Iterator.{Count}
 use Rattle.pc_source.specs.declared.fault.Fault.{Fault}
 use Rattle.pc_source.specs.declared.place.Place.{Place}
 use Rattle.pc_token.specs.declared.token.Token.{Token}
@@ -41,48 +42,48 @@ abbrev pub IsNoLastLine : {X I : Type 0} → Reader X I → Name → Type 0
 IsNoLastLine {X} a n = (t : Token X) → a.ahead ≡ Some t
     → (same_kind t.kind (kind.Operator sign.LeftParenthesis) && bytes_eq n.text (codes "main")) ≡ false
 
-module _ {X I : Type 0} (text : X → List ℕ) (steps : I → Option (Result (Token X) Fault) → I → Type 0)
-    (can : I → Type 0) (left : I → Count) where
+module _ {X I : Type 0} (texts : TextOf X) (source : TokensOf I (Result (Token X) Fault)) where
   -- the headers were read
   pub record GivesHeaders (a b : Reader X I) (h : OptionalImports) : Type 0 where
-    pub ready : IsReady can left b
-    pub later : left_in left b < left_in left a
-    pub leads : Onward text steps a b (at start) (at (items after_headers (top_of h [])))
+    pub ready : IsReady source.can_next source.remaining b
+    pub later : left_in source.remaining b < left_in source.remaining a
+    pub leads : Onward texts.text source.next_gives a b (at start) (at (items after_headers (top_of h [])))
 
   -- the headers were read, or the refusal is the machine's
   abbrev pub ReadsHeaders : Reader X I → Reader X I → Result OptionalImports Fault → Type 0
-  ReadsHeaders a b r = MatchResult r (λ h. GivesHeaders a b h) (λ e. Blames e (λ o. Came text steps a (at start) o))
+  ReadsHeaders a b r = MatchResult r (λ h. GivesHeaders a b h)
+      (λ e. Blames e (λ o. Came texts.text source.next_gives a (at start) o))
 
   -- a constant was read, from after its name
   pub record GivesConstant (a b : Parser X I) (n : Name) (v : RustConstant) : Type 0 where
     pub constant : Constant
     pub keeps : KeepsTree constant_of
         (λ c. optional_anns c.annotation ++ (whole_expr c.value ∷ [])) a.deep b.deep v constant
-    pub ready : IsReady can left b.reader
-    pub later : left_in left b.reader < left_in left a.reader
-    pub leads : (top : Top) → Onward text steps a.reader b.reader (at (item_named n top))
+    pub ready : IsReady source.can_next source.remaining b.reader
+    pub later : left_in source.remaining b.reader < left_in source.remaining a.reader
+    pub leads : (top : Top) → Onward texts.text source.next_gives a.reader b.reader (at (item_named n top))
         (at (items after_headers (add_item top (constant_item n.place constant))))
 
   -- unless this is the last line, a constant was read, from after its name, or the refusal is the machine's
   abbrev pub ReadsConstant : Parser X I → Parser X I → Name → Result RustConstant Fault → Type 0
   ReadsConstant a b n r = IsNoLastLine a.reader n
       → MatchResult r (λ v. GivesConstant a b n v)
-      (λ e. Blames e (λ o. (top : Top) → Came text steps a.reader (at (item_named n top)) o))
+      (λ e. Blames e (λ o. (top : Top) → Came texts.text source.next_gives a.reader (at (item_named n top)) o))
 
   -- an item was read
   pub record GivesItem (a b : Parser X I) (v : RustItem) : Type 0 where
     pub item : Item
     pub keeps : KeepsTree item_of wholes_of_item a.deep b.deep v item
-    pub ready : IsReady can left b.reader
-    pub later : left_in left b.reader < left_in left a.reader
-    pub leads : (top : Top) → Onward text steps a.reader b.reader (at (items after_headers top))
+    pub ready : IsReady source.can_next source.remaining b.reader
+    pub later : left_in source.remaining b.reader < left_in source.remaining a.reader
+    pub leads : (top : Top) → Onward texts.text source.next_gives a.reader b.reader (at (items after_headers top))
         (at (items after_headers (add_item top item)))
 
   -- the last line was read
   pub record GivesLast (a b : Parser X I) (main : Place) : Type 0 where
     pub same : b.deep ≡ a.deep
-    pub ready : IsReady can left b.reader
-    pub leads : (top : Top) → Onward text steps a.reader b.reader (at (items after_headers top))
+    pub ready : IsReady source.can_next source.remaining b.reader
+    pub leads : (top : Top) → Onward texts.text source.next_gives a.reader b.reader (at (items after_headers top))
         (at (ended (module_over top main)))
 
   -- an item or the last line was read
@@ -93,21 +94,22 @@ module _ {X I : Type 0} (text : X → List ℕ) (steps : I → Option (Result (T
   -- an item or the last line was read, or the refusal is the machine's
   abbrev pub ReadsPiece : Parser X I → Parser X I → Result Piece Fault → Type 0
   ReadsPiece a b r = MatchResult r (λ v. GivesPiece a b v)
-      (λ e. Blames e (λ o. (top : Top) → Came text steps a.reader (at (items after_headers top)) o))
+      (λ e. Blames e (λ o. (top : Top) → Came texts.text source.next_gives a.reader (at (items after_headers top)) o))
 
   -- items were read so far
   pub record ItemsSoFar (a b : Parser X I) (h : OptionalImports) (v : Vec RustItem Global) : Type 0 where
     pub all : List Item
     pub keeps : KeepsTree (λ w. map item_of w.items) wholes_of_items a.deep b.deep v all
-    pub leads : Onward text steps a.reader b.reader (at start) (at (items after_headers (top_of h all)))
+    pub leads : Onward texts.text source.next_gives a.reader b.reader (at start)
+        (at (items after_headers (top_of h all)))
 
   -- a module was read, and with it all tokens
   pub record GivesModule (a b : Parser X I) (v : RustModule) : Type 0 where
     pub tree : Module
     pub keeps : KeepsTree module_of (λ m. wholes_of_items m.items) a.deep b.deep v tree
-    pub comes : Came text steps a.reader (at start) (Ok tree)
+    pub comes : Came texts.text source.next_gives a.reader (at start) (Ok tree)
 
   -- a module was read, or the refusal is the machine's
   abbrev pub ReadsModule : Parser X I → Parser X I → Result RustModule Fault → Type 0
   ReadsModule a b r = MatchResult r (λ v. GivesModule a b v)
-      (λ e. Blames e (λ o. Came text steps a.reader (at start) o))
+      (λ e. Blames e (λ o. Came texts.text source.next_gives a.reader (at start) o))

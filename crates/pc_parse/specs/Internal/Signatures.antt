@@ -1,8 +1,9 @@
 -- Results of the functions that read parameters and functions.
-use Rattle.std.specs.Prelude.{ℕ, ◌≡◌, ◌≤◌, ◌<◌, Bool, false, List, [], map, Option, Some, None, Result, MatchResult}
+use Rattle.std.specs.declared.convert.AsStr.{Ghosts as TextOf}
+use Rattle.std.specs.declared.iter.Iterator.{Ghosts as TokensOf}
+use Rattle.std.specs.Prelude.{◌≡◌, ◌≤◌, ◌<◌, Bool, false, List, [], map, Option, Some, None, Result, MatchResult}
 use Rattle.std.specs.Prelude.{Vec, codes}
 use Rattle.std.specs.declared.alloc.Global.{Global}
-use Rattle.std.specs.Iterator.{Count}
 use Rattle.pc_source.specs.declared.fault.Fault.{Fault}
 use Rattle.pc_source.specs.declared.place.Place.{Place}
 use Rattle.pc_token.specs.declared.token.Token.{Token}
@@ -17,7 +18,8 @@ use Rattle.pc_tree.specs.Tree.{Ann, no_anns, Param, FuncDef, option_ann_of, para
 use Rattle.pc_tree.specs.Depth.{optional_anns, wholes_of_params, wholes_of_def}
 use Rattle.pc_grammar.specs.Machine.{at}
 use Rattle.pc_grammar.specs.Machine.Kinds.{same_kind, a_form}
-use Rattle.pc_grammar.specs.Machine.States.{FunctionOwner, DefStart, AnnotationPosition, ann_whole, State, fixed, def_due}
+use Rattle.pc_grammar.specs.Machine.States.{FunctionOwner, DefStart, AnnotationPosition, ann_whole, State, fixed}
+use Rattle.pc_grammar.specs.Machine.States.{def_due}
 use Rattle.pc_grammar.specs.Machine.States.{self_read, param_due, params_read, part_due, Transition, on}
 use Rattle.pc_grammar.specs.Machine.Finishing.{finish_ann, param_end, after_def}
 use Rattle.pc_grammar.specs.Machine.Lines.{params_of}
@@ -36,54 +38,55 @@ abbrev pub or_ann : AnnotationPosition → (TokenKind → Transition) → Option
 or_ann c other None k = other k
 or_ann c other (Some a) k = finish_ann c a k
 
-module _ {X I : Type 0} (text : X → List ℕ) (steps : I → Option (Result (Token X) Fault) → I → Type 0)
-    (can : I → Type 0) (left : I → Count) where
+module _ {X I : Type 0} (texts : TextOf X) (source : TokensOf I (Result (Token X) Fault)) where
   -- an optional annotation was read
   pub record GivesOpened (opener : Opener) (a b : Parser X I) (n : Option RustAnn) : Type 0 where
     pub annotation : Option Ann
     pub keeps : KeepsTree option_ann_of optional_anns a.deep b.deep n annotation
-    pub ready : IsReady can left b.reader
-    pub later : left_in left b.reader ≤ left_in left a.reader
+    pub ready : IsReady source.can_next source.remaining b.reader
+    pub later : left_in source.remaining b.reader ≤ left_in source.remaining a.reader
     pub leads : (st : State) (c : AnnotationPosition) (other : TokenKind → Transition)
-        → StandsBefore text a.reader st (opens_ann opener c other)
-        → LeadsTo text steps a.reader b.reader st (or_ann c other annotation)
+        → StandsBefore texts.text a.reader st (opens_ann opener c other)
+        → LeadsTo texts.text source.next_gives a.reader b.reader st (or_ann c other annotation)
 
   -- an optional annotation was read, or the refusal is the machine's
   abbrev pub ReadsOpened : Opener → Parser X I → Parser X I → Result (Option RustAnn) Fault → Type 0
   ReadsOpened opener a b r = MatchResult r (λ n. GivesOpened opener a b n)
       (λ e. Blames e (λ o. (st : State) (c : AnnotationPosition) (other : TokenKind → Transition)
-      → StandsBefore text a.reader st (opens_ann opener c other) → Came text steps a.reader (at st) o))
+      → StandsBefore texts.text a.reader st (opens_ann opener c other) → Came texts.text source.next_gives a.reader
+      (at st) o))
 
   -- a parameter was read, after others
   pub record GivesParam (a b : Parser X I) (p : RustParam) : Type 0 where
     pub parameter : Param
     pub keeps : KeepsTree param_of (λ q. optional_anns q.annotation) a.deep b.deep p parameter
-    pub ready : IsReady can left b.reader
-    pub later : left_in left b.reader < left_in left a.reader
+    pub ready : IsReady source.can_next source.remaining b.reader
+    pub later : left_in source.remaining b.reader < left_in source.remaining a.reader
     pub leads : (d : DefStart) (ps : List Param)
-        → LeadsTo text steps a.reader b.reader (param_due d ps) (param_end d ps parameter)
+        → LeadsTo texts.text source.next_gives a.reader b.reader (param_due d ps) (param_end d ps parameter)
 
   -- a parameter was read, or the refusal is the machine's where no `)` is ahead
   abbrev pub ReadsParam : Parser X I → Parser X I → Result RustParam Fault → Type 0
   ReadsParam a b r = MatchResult r (λ p. GivesParam a b p)
       (λ e. Blames e (λ o. (d : DefStart) (ps : List Param)
       → IsAhead (kind.Operator sign.RightParenthesis) a.reader.ahead ≡ false
-      → Came text steps a.reader (at (param_due d ps)) o))
+      → Came texts.text source.next_gives a.reader (at (param_due d ps)) o))
 
   -- parameters and `)` were read, from a state where they are due
   pub record GivesParams (from : DefStart → State) (a b : Parser X I) (v : Vec RustParam Global) : Type 0 where
     pub params : List Param
     pub keeps : KeepsTree (λ w. map param_of w.items) wholes_of_params a.deep b.deep v params
-    pub ready : IsReady can left b.reader
-    pub later : left_in left b.reader < left_in left a.reader
-    pub leads : (d : DefStart) → Onward text steps a.reader b.reader (at (from d)) (at (params_read d params))
+    pub ready : IsReady source.can_next source.remaining b.reader
+    pub later : left_in source.remaining b.reader < left_in source.remaining a.reader
+    pub leads : (d : DefStart) → Onward texts.text source.next_gives a.reader b.reader (at (from d))
+        (at (params_read d params))
 
   -- parameters and `)` were read, from a state where they are due, or the refusal is the machine's
   abbrev pub ReadsParamsFrom : (DefStart → State) → Parser X I → Parser X I → Result (Vec RustParam Global) Fault
       → Type 0
   ReadsParamsFrom from a b r =
       MatchResult r (λ v. GivesParams from a b v)
-      (λ e. Blames e (λ o. (d : DefStart) → Came text steps a.reader (at (from d)) o))
+      (λ e. Blames e (λ o. (d : DefStart) → Came texts.text source.next_gives a.reader (at (from d)) o))
 
   -- parameters and `)` were read, after the `(` of a function, or the refusal is the machine's
   abbrev pub ReadsParams : Parser X I → Parser X I → Result (Vec RustParam Global) Fault → Type 0
@@ -97,34 +100,36 @@ module _ {X I : Type 0} (text : X → List ℕ) (steps : I → Option (Result (T
   pub record ParamsSoFar (a b : Parser X I) (v : Vec RustParam Global) : Type 0 where
     pub params : List Param
     pub keeps : KeepsTree (λ w. map param_of w.items) wholes_of_params a.deep b.deep v params
-    pub leads : (d : DefStart) → Onward text steps a.reader b.reader (at (param_due d [])) (at (param_due d params))
+    pub leads : (d : DefStart) → Onward texts.text source.next_gives a.reader b.reader (at (param_due d []))
+        (at (param_due d params))
 
   -- the parameters of a function or method were read, with the parentheses around them
   pub record GivesSignature (method : Bool) (a b : Parser X I) (v : Vec RustParam Global) : Type 0 where
     pub params : List Param
     pub keeps : KeepsTree (λ w. map param_of w.items) wholes_of_params a.deep b.deep v params
-    pub ready : IsReady can left b.reader
-    pub later : left_in left b.reader < left_in left a.reader
+    pub ready : IsReady source.can_next source.remaining b.reader
+    pub later : left_in source.remaining b.reader < left_in source.remaining a.reader
     pub leads : (owner : FunctionOwner) (d : DefStart) → is_method owner ≡ method
-        → Onward text steps a.reader b.reader (at (params_of owner d)) (at (params_read d params))
+        → Onward texts.text source.next_gives a.reader b.reader (at (params_of owner d)) (at (params_read d params))
 
   -- the parameters of a function or method and their parentheses were read, or the refusal is the machine's
   abbrev pub ReadsSignature : Bool → Parser X I → Parser X I → Result (Vec RustParam Global) Fault → Type 0
   ReadsSignature method a b r = MatchResult r (λ v. GivesSignature method a b v)
       (λ e. Blames e (λ o. (owner : FunctionOwner) (d : DefStart) → is_method owner ≡ method
-      → Came text steps a.reader (at (params_of owner d)) o))
+      → Came texts.text source.next_gives a.reader (at (params_of owner d)) o))
 
   -- a function or method was read, from after its `def`
   pub record GivesFunction (method : Bool) (a b : Parser X I) (f : RustFuncDef) : Type 0 where
     pub function : FuncDef
     pub keeps : KeepsTree func_of wholes_of_def a.deep b.deep f function
-    pub ready : IsReady can left b.reader
-    pub later : left_in left b.reader < left_in left a.reader
+    pub ready : IsReady source.can_next source.remaining b.reader
+    pub later : left_in source.remaining b.reader < left_in source.remaining a.reader
     pub leads : (owner : FunctionOwner) (first : Place) → is_method owner ≡ method
-        → Onward text steps a.reader b.reader (at (def_due owner first)) (at (after_def owner first function))
+        → Onward texts.text source.next_gives a.reader b.reader (at (def_due owner first))
+        (at (after_def owner first function))
 
   -- a function or method was read, from after its `def`, or the refusal is the machine's
   abbrev pub ReadsFunction : Bool → Parser X I → Parser X I → Result RustFuncDef Fault → Type 0
   ReadsFunction method a b r = MatchResult r (λ f. GivesFunction method a b f)
       (λ e. Blames e (λ o. (owner : FunctionOwner) (first : Place) → is_method owner ≡ method
-      → Came text steps a.reader (at (def_due owner first)) o))
+      → Came texts.text source.next_gives a.reader (at (def_due owner first)) o))

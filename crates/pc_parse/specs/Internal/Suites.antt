@@ -1,7 +1,8 @@
 -- Results of the functions that read statements and suites.
-use Rattle.std.specs.Prelude.{ℕ, ◌≡◌, ◌<◌, ◌≤◌, ◌⊎◌, false, List, [], ◌∷◌, Option, Some, None, Result, MatchResult, Vec}
+use Rattle.std.specs.declared.convert.AsStr.{Ghosts as TextOf}
+use Rattle.std.specs.declared.iter.Iterator.{Ghosts as TokensOf}
+use Rattle.std.specs.Prelude.{ℕ, ◌≡◌, ◌<◌, ◌≤◌, ◌⊎◌, false, List, [], ◌∷◌, Some, None, Result, MatchResult, Vec}
 use Rattle.std.specs.declared.alloc.Global.{Global}
-use Rattle.std.specs.Iterator.{Count}
 use Rattle.pc_source.specs.declared.fault.Fault.{Fault}
 use Rattle.pc_source.specs.declared.place.Place.{Place}
 use Rattle.pc_token.specs.declared.token.Token.{Token}
@@ -84,29 +85,31 @@ module _ {X I : Type 0} (text : X → List ℕ) where
     pub turns : (t : Token X) → a.reader.ahead ≡ Some t
         → transition st (lexeme text t) t.kind ≡ on (same_kind t.kind kind.Newline) next stuck
 
-module _ {X I : Type 0} (text : X → List ℕ) (steps : I → Option (Result (Token X) Fault) → I → Type 0)
-    (can : I → Type 0) (left : I → Count) where
+module _ {X I : Type 0} (texts : TextOf X) (source : TokensOf I (Result (Token X) Fault)) where
   -- a line end was read
   pub record EndsLine (a b : Parser X I) : Type 0 where
     pub deep : b.deep ≡ a.deep
-    pub ready : IsReady can left b.reader
-    pub later : left_in left b.reader < left_in left a.reader
-    pub leads : (st next : State) → LineEnds text a st next → Onward text steps a.reader b.reader (at st) (at next)
+    pub ready : IsReady source.can_next source.remaining b.reader
+    pub later : left_in source.remaining b.reader < left_in source.remaining a.reader
+    pub leads : (st next : State) → LineEnds texts.text a st next → Onward texts.text source.next_gives a.reader
+        b.reader (at st) (at next)
 
   -- a line end was read, and the value passed in is returned, or the refusal is the machine's
   abbrev pub ReadsLineEnd : {T : Type 0} → Parser X I → Parser X I → T → Result T Fault → Type 0
   ReadsLineEnd a b s r = MatchResult r (λ s'. (s' ≡ s) × EndsLine a b)
-      (λ e. Blames e (λ o. (st next : State) → LineEnds text a st next → Came text steps a.reader (at st) o))
+      (λ e. Blames e (λ o. (st next : State) → LineEnds texts.text a st next
+      → Came texts.text source.next_gives a.reader (at st) o))
 
   -- a statement was read, from a state after other statements that fit
   pub record GivesStmt (start : Stmts → Block → State) (fits : Stmts → Type 0) (a b : Parser X I)
       (s : RustStmt) : Type 0 where
     pub statement : Stmt
     pub keeps : KeepsTree stmt_of wholes_of_stmt a.deep b.deep s statement
-    pub ready : IsReady can left b.reader
-    pub later : left_in left b.reader < left_in left a.reader
+    pub ready : IsReady source.can_next source.remaining b.reader
+    pub later : left_in source.remaining b.reader < left_in source.remaining a.reader
     pub leads : (done : Stmts) (block : Block) → fits done
-        → Onward text steps a.reader b.reader (at (start done block)) (at (stmts (add_stmt done statement) block))
+        → Onward texts.text source.next_gives a.reader b.reader (at (start done block))
+        (at (stmts (add_stmt done statement) block))
 
   -- a statement was read, from a state after other statements that fit, or the refusal is the machine's
   abbrev pub ReadsFrom : (Stmts → Block → State) → (Stmts → Type 0) → Parser X I → Parser X I → Result RustStmt Fault
@@ -114,7 +117,7 @@ module _ {X I : Type 0} (text : X → List ℕ) (steps : I → Option (Result (T
   ReadsFrom start fits a b r =
       MatchResult r (λ s. GivesStmt start fits a b s)
       (λ e. Blames e (λ o. (done : Stmts) (block : Block) → fits done
-      → Came text steps a.reader (at (start done block)) o))
+      → Came texts.text source.next_gives a.reader (at (start done block)) o))
 
   -- a whole statement was read, or the refusal is the machine's
   abbrev pub ReadsStmt : (Stmts → Type 0) → Parser X I → Parser X I → Result RustStmt Fault → Type 0
@@ -132,15 +135,16 @@ module _ {X I : Type 0} (text : X → List ℕ) (steps : I → Option (Result (T
     pub statements : Stmts
     pub keeps : KeepsTree (λ (w : Vec RustStmt Global). stmts_of_list w.items)
         wholes_of_stmts a.deep b.deep v statements
-    pub ready : IsReady can left b.reader
-    pub later : left_in left b.reader < left_in left a.reader
+    pub ready : IsReady source.can_next source.remaining b.reader
+    pub later : left_in source.remaining b.reader < left_in source.remaining a.reader
     pub leads : (block : Block)
-        → Onward text steps a.reader b.reader (at (suite_of block)) (at (after_suite block statements))
+        → Onward texts.text source.next_gives a.reader b.reader (at (suite_of block))
+        (at (after_suite block statements))
 
   -- the statements of a suite and its end were read, or the refusal is the machine's
   abbrev pub ReadsSuite : Parser X I → Parser X I → Result (Vec RustStmt Global) Fault → Type 0
   ReadsSuite a b r = MatchResult r (λ v. GivesSuite a b v)
-      (λ e. Blames e (λ o. (block : Block) → Came text steps a.reader (at (suite_of block)) o))
+      (λ e. Blames e (λ o. (block : Block) → Came texts.text source.next_gives a.reader (at (suite_of block)) o))
 
   -- an expression and a suite after it were read
   pub record GivesHeaded (a b : Parser X I) (value : RustExpr) (v : List RustStmt) : Type 0 where
@@ -149,33 +153,33 @@ module _ {X I : Type 0} (text : X → List ℕ) (steps : I → Option (Result (T
     pub deep : b.deep ≡ deep_after a.deep (whole_expr head ∷ wholes_of_stmts body)
     pub kept_head : b.deep ≡ None → expr_of value ≡ head
     pub kept_body : b.deep ≡ None → stmts_of_list v ≡ body
-    pub ready : IsReady can left b.reader
-    pub later : left_in left b.reader < left_in left a.reader
+    pub ready : IsReady source.can_next source.remaining b.reader
+    pub later : left_in source.remaining b.reader < left_in source.remaining a.reader
     pub leads : (begun : Begun) (nest : Expr → Nest) (site : Site) → Heads begun nest
-        → Onward text steps a.reader b.reader (at (operand (whole (in_statement begun site))))
+        → Onward texts.text source.next_gives a.reader b.reader (at (operand (whole (in_statement begun site))))
         (at (after_suite (nested_in site (nest head)) body))
 
   -- an expression and a suite after it were read, or the refusal is the machine's
   abbrev pub ReadsHeaded : Parser X I → Parser X I → Result ((e : RustExpr) × Vec RustStmt Global) Fault → Type 0
   ReadsHeaded a b r = MatchResult r (λ h. GivesHeaded a b h.0 h.1.items)
       (λ e. Blames e (λ o. (begun : Begun) (nest : Expr → Nest) (site : Site) → Heads begun nest
-      → Came text steps a.reader (at (operand (whole (in_statement begun site)))) o))
+      → Came texts.text source.next_gives a.reader (at (operand (whole (in_statement begun site)))) o))
 
   -- the suite of `else` was read, if there is one
   pub record GivesElse (a b : Parser X I) (v : List RustStmt) : Type 0 where
     pub statements : Stmts
     pub keeps : KeepsTree stmts_of_list wholes_of_stmts a.deep b.deep v statements
-    pub ready : IsReady can left b.reader
-    pub later : left_in left b.reader ≤ left_in left a.reader
+    pub ready : IsReady source.can_next source.remaining b.reader
+    pub later : left_in source.remaining b.reader ≤ left_in source.remaining a.reader
     pub leads : (branches : Branches) (site : Site) → IsAhead (kind.Keyword word.Elif) a.reader.ahead ≡ false
-        → Onward text steps a.reader b.reader (at (after_branch branches site))
+        → Onward texts.text source.next_gives a.reader b.reader (at (after_branch branches site))
         (at (after_stmt site (conditional site.first branches statements)))
 
   -- the suite of `else` was read, if there is one, or the refusal is the machine's where no `elif` is ahead
   abbrev pub ReadsElse : Parser X I → Parser X I → Result (Vec RustStmt Global) Fault → Type 0
   ReadsElse a b r = MatchResult r (λ v. GivesElse a b v.items)
       (λ e. Blames e (λ o. (branches : Branches) (site : Site) → IsAhead (kind.Keyword word.Elif) a.reader.ahead ≡ false
-      → Came text steps a.reader (at (after_branch branches site)) o))
+      → Came texts.text source.next_gives a.reader (at (after_branch branches site)) o))
 
   -- ---- loops
 
@@ -183,18 +187,18 @@ module _ {X I : Type 0} (text : X → List ℕ) (steps : I → Option (Result (T
   pub record StmtsSoFar (a b : Parser X I) (v : List RustStmt) : Type 0 where
     pub statements : Stmts
     pub keeps : KeepsTree stmts_of_list wholes_of_stmts a.deep b.deep v statements
-    pub ready : IsReady can left b.reader
-    pub later : left_in left b.reader < left_in left a.reader
+    pub ready : IsReady source.can_next source.remaining b.reader
+    pub later : left_in source.remaining b.reader < left_in source.remaining a.reader
     pub stands : MayGoOn statements b
     pub leads : (block : Block)
-        → Onward text steps a.reader b.reader (at (suite_of block)) (at (stmts statements block))
+        → Onward texts.text source.next_gives a.reader b.reader (at (suite_of block)) (at (stmts statements block))
 
   -- the branches of an `if` were read so far, up to the next condition
   pub record BranchesSoFar (first : Place) (a b : Parser X I) (v : List RustBranch) : Type 0 where
     pub branches : Branches
     pub keeps : KeepsTree branches_of_list wholes_of_branches a.deep b.deep v branches
-    pub ready : IsReady can left b.reader
-    pub later : left_in left b.reader < left_in left a.reader
+    pub ready : IsReady source.can_next source.remaining b.reader
+    pub later : left_in source.remaining b.reader < left_in source.remaining a.reader
     pub leads : (done : Stmts) (block : Block) → HasLead leads_if a
-        → Onward text steps a.reader b.reader (at (stmts done block))
+        → Onward texts.text source.next_gives a.reader b.reader (at (stmts done block))
         (at (operand (whole (in_statement (branching branches) (site_at first done block)))))

@@ -1,6 +1,7 @@
 -- Results of the functions that read whole expressions and annotations, and the first that is too deep.
+use Rattle.std.specs.declared.convert.AsStr.{Ghosts as TextOf}
+use Rattle.std.specs.declared.iter.Iterator.{Ghosts as TokensOf}
 use Rattle.std.specs.Prelude.{ℕ, ◌≡◌, ◌<◌, List, [], ◌∷◌, Option, Some, None, Result, MatchResult}
-use Rattle.std.specs.Iterator.{Count}
 use Rattle.pc_source.specs.declared.fault.Fault.{Fault}
 use Rattle.pc_token.specs.declared.token.Token.{Token}
 use Rattle.pc_token.specs.declared.token.TokenKind.{TokenKind}
@@ -47,43 +48,44 @@ ending_in _ = no_ending
 abbrev pub ending_of : TokenKind → Ending
 ending_of k = ending_in (follow_of k)
 
-module _ {X I : Type 0} (text : X → List ℕ) (steps : I → Option (Result (Token X) Fault) → I → Type 0)
-    (can : I → Type 0) (left : I → Count) where
+module _ {X I : Type 0} (texts : TextOf X) (source : TokensOf I (Result (Token X) Fault)) where
   -- a whole expression was read, and its depth noted
   pub record GivesWhole (a b : Parser X I) (o : Operand) : Type 0 where
     pub part : Part
     pub keeps : KeepsPart o part
     pub begins : (t : Token X) → a.reader.ahead ≡ Some t → first_place part.tokens ≡ t.place
     pub deep : b.deep ≡ deep_after a.deep (whole_expr part.tree ∷ [])
-    pub ready : IsReady can left b.reader
-    pub later : left_in left b.reader < left_in left a.reader
+    pub ready : IsReady source.can_next source.remaining b.reader
+    pub later : left_in source.remaining b.reader < left_in source.remaining a.reader
     pub leads : (c : ExpressionPosition)
-        → Onward text steps a.reader b.reader (at (operand (whole c))) (at (have o.level part (whole c)))
+        → Onward texts.text source.next_gives a.reader b.reader (at (operand (whole c)))
+        (at (have o.level part (whole c)))
     -- the turn at the token after it
     pub goes : (c : ExpressionPosition) (t : Token X) → b.reader.ahead ≡ Some t
-        → transition (have o.level part (whole c)) (lexeme text t) t.kind ≡ finish c part (ending_of t.kind)
+        → transition (have o.level part (whole c)) (lexeme texts.text t) t.kind ≡ finish c part (ending_of t.kind)
 
   -- a whole expression was read, or the refusal is the machine's
   abbrev pub ReadsWhole : Parser X I → Parser X I → Result Operand Fault → Type 0
   ReadsWhole a b r = MatchResult r (λ o. GivesWhole a b o)
-      (λ e. Blames e (λ o. (c : ExpressionPosition) → Came text steps a.reader (at (operand (whole c))) o))
+      (λ e. Blames e (λ o. (c : ExpressionPosition) → Came texts.text source.next_gives a.reader
+      (at (operand (whole c))) o))
 
   -- a whole annotation was read, and its depth noted
   pub record GivesAnn (a b : Parser X I) (n : RustAnn) : Type 0 where
     pub annotation : Ann
     pub keeps : KeepsTree ann_of (λ x. whole_ann x ∷ []) a.deep b.deep n annotation
-    pub ready : IsReady can left b.reader
-    pub later : left_in left b.reader < left_in left a.reader
+    pub ready : IsReady source.can_next source.remaining b.reader
+    pub later : left_in source.remaining b.reader < left_in source.remaining a.reader
     -- the state after its last token
     pub behind : AnnotationPosition → State
     pub unfinished : (c : AnnotationPosition) → stop_at (behind c) ≡ short
     pub leads : (c : AnnotationPosition)
-        → Onward text steps a.reader b.reader (at (part_due no_anns [] (ann_whole c))) (at (behind c))
+        → Onward texts.text source.next_gives a.reader b.reader (at (part_due no_anns [] (ann_whole c))) (at (behind c))
     pub goes : (c : AnnotationPosition) (t : Token X) → b.reader.ahead ≡ Some t
-        → transition (behind c) (lexeme text t) t.kind ≡ finish_ann c annotation t.kind
+        → transition (behind c) (lexeme texts.text t) t.kind ≡ finish_ann c annotation t.kind
 
   -- a whole annotation was read, or the refusal is the machine's
   abbrev pub ReadsAnn : Parser X I → Parser X I → Result RustAnn Fault → Type 0
   ReadsAnn a b r = MatchResult r (λ n. GivesAnn a b n)
       (λ e. Blames e (λ o. (c : AnnotationPosition)
-      → Came text steps a.reader (at (part_due no_anns [] (ann_whole c))) o))
+      → Came texts.text source.next_gives a.reader (at (part_due no_anns [] (ann_whole c))) o))

@@ -1,6 +1,7 @@
 -- Results of the functions that read fixed tokens.
+use Rattle.std.specs.declared.convert.AsStr.{Ghosts as TextOf}
+use Rattle.std.specs.declared.iter.Iterator.{Ghosts as TokensOf}
 use Rattle.std.specs.Prelude.{ℕ, ◌≡◌, ◌≤◌, Bool, true, false, List, [], ◌∷◌, Option, Some, None, Result, MatchResult}
-use Rattle.std.specs.Iterator.{Count}
 use Rattle.pc_source.specs.declared.fault.Fault.{Fault}
 use Rattle.pc_token.specs.declared.token.Token.{Token}
 use Rattle.pc_token.specs.declared.token.TokenKind.{TokenKind}
@@ -27,25 +28,25 @@ abbrev pub kinds_of : List TokenKind → List Fixed
 kinds_of [] = []
 kinds_of (k ∷ ks) = a_kind k ∷ kinds_of ks
 
-module _ {X I : Type 0} (text : X → List ℕ) (steps : I → Option (Result (Token X) Fault) → I → Type 0)
-    (can : I → Type 0) (left : I → Count) where
+module _ {X I : Type 0} (texts : TextOf X) (source : TokensOf I (Result (Token X) Fault)) where
   -- a name of this form was taken
   pub record TakesForm (form : List ℕ) (a b : Reader X I) (t : Token X) : Type 0 where
-    pub takes : Takes text steps can left a b t
-    pub is : is_fixed (a_form form) (lexeme text t) t.kind ≡ true
+    pub takes : Takes texts source a b t
+    pub is : is_fixed (a_form form) (lexeme texts.text t) t.kind ≡ true
 
   -- a name of this form was taken, or the refusal is the machine's where only that name fits
   abbrev pub ReadsForm : List ℕ → Reader X I → Reader X I → Result (Token X) Fault → Type 0
   ReadsForm form a b r = MatchResult r (λ t. TakesForm form a b t)
-      (λ e. Blames e (λ o. (st : State) → NeedsForm text form st a → Came text steps a (at st) o))
+      (λ e. Blames e (λ o. (st : State) → NeedsForm texts.text form st a → Came texts.text source.next_gives a (at st)
+      o))
 
   -- these fixed tokens were read
   pub record GivesFixed (ws : List Fixed) (a b : Reader X I) : Type 0 where
-    pub ready : IsReady can left b
-    pub later : left_in left b ≤ left_in left a
-    pub leads : (next : State) → Onward text steps a b (at (due ws next)) (at next)
+    pub ready : IsReady source.can_next source.remaining b
+    pub later : left_in source.remaining b ≤ left_in source.remaining a
+    pub leads : (next : State) → Onward texts.text source.next_gives a b (at (due ws next)) (at next)
 
   -- these fixed tokens were read, or the refusal is the machine's
   abbrev pub ReadsFixed : {U : Type 0} → List Fixed → Reader X I → Reader X I → Result U Fault → Type 0
   ReadsFixed ws a b r = MatchResult r (λ _. GivesFixed ws a b)
-      (λ e. Blames e (λ o. (next : State) → Came text steps a (at (due ws next)) o))
+      (λ e. Blames e (λ o. (next : State) → Came texts.text source.next_gives a (at (due ws next)) o))

@@ -1,7 +1,8 @@
 -- Results of the functions that read literals.
-use Rattle.std.specs.Prelude.{ℕ, ◌≡◌, ◌≤◌, ◌<◌, Bool, true, false, List, [], ◌∷◌, Option, Some, None, Result}
+use Rattle.std.specs.declared.convert.AsStr.{Ghosts as TextOf}
+use Rattle.std.specs.declared.iter.Iterator.{Ghosts as TokensOf}
+use Rattle.std.specs.Prelude.{ℕ, ◌≡◌, ◌≤◌, ◌<◌, Bool, true, false, [], ◌∷◌, Option, Some, None, Result}
 use Rattle.std.specs.Prelude.{MatchResult}
-use Rattle.std.specs.Iterator.{Count}
 use Rattle.pc_source.specs.declared.fault.Fault.{Fault}
 use Rattle.pc_token.specs.declared.token.Token.{Token}
 use Rattle.pc_token.specs.declared.token.TokenKind.{TokenKind}
@@ -13,7 +14,8 @@ use Rattle.pc_tree.specs.declared.tree.Literal.{Literal as RustLiteral}
 use Rattle.pc_tree.specs.Tree.{Literal, literal_of, option_literal_of}
 use Rattle.pc_grammar.specs.Machine.{at}
 use Rattle.pc_grammar.specs.Machine.Kinds.{same_kind}
-use Rattle.pc_grammar.specs.Machine.States.{LiteralContext, State, literal_due, minus_read, literal_read, Transition, go, on}
+use Rattle.pc_grammar.specs.Machine.States.{LiteralContext, State, literal_due, minus_read, literal_read, Transition}
+use Rattle.pc_grammar.specs.Machine.States.{go, on}
 use Rattle.pc_grammar.specs.Machine.Finishing.{finish_literal}
 use Rattle.pc_grammar.specs.Machine.Lines.{literal_turn}
 use Rattle.pc_reader.specs.declared.reader.Reader.{Reader}
@@ -47,19 +49,19 @@ abbrev pub or_literal : LiteralContext → (TokenKind → Transition) → Option
 or_literal c other None k = other k
 or_literal c other (Some l) k = finish_literal c l k
 
-module _ {X I : Type 0} (text : X → List ℕ) (steps : I → Option (Result (Token X) Fault) → I → Type 0)
-    (can : I → Type 0) (left : I → Count) where
+module _ {X I : Type 0} (texts : TextOf X) (source : TokensOf I (Result (Token X) Fault)) where
   -- a literal was read, from a state where it is due
   pub record GivesLiteral (from : LiteralContext → State) (a b : Reader X I) (l : RustLiteral) : Type 0 where
-    pub ready : IsReady can left b
-    pub later : left_in left b < left_in left a
-    pub leads : (c : LiteralContext) → Onward text steps a b (at (from c)) (at (literal_read c (literal_of l)))
+    pub ready : IsReady source.can_next source.remaining b
+    pub later : left_in source.remaining b < left_in source.remaining a
+    pub leads : (c : LiteralContext) → Onward texts.text source.next_gives a b (at (from c))
+        (at (literal_read c (literal_of l)))
 
   -- a literal was read, from a state where it is due, or the refusal is the machine's
   abbrev pub ReadsLiteralFrom : (LiteralContext → State) → Reader X I → Reader X I → Result RustLiteral Fault → Type 0
   ReadsLiteralFrom from a b r =
       MatchResult r (λ l. GivesLiteral from a b l)
-      (λ e. Blames e (λ o. (c : LiteralContext) → Came text steps a (at (from c)) o))
+      (λ e. Blames e (λ o. (c : LiteralContext) → Came texts.text source.next_gives a (at (from c)) o))
 
   -- a literal was read, or the refusal is the machine's
   abbrev pub ReadsLiteral : Reader X I → Reader X I → Result RustLiteral Fault → Type 0
@@ -71,14 +73,14 @@ module _ {X I : Type 0} (text : X → List ℕ) (steps : I → Option (Result (T
 
   -- an optional default was read
   pub record GivesDefault (a b : Reader X I) (l : Option RustLiteral) : Type 0 where
-    pub ready : IsReady can left b
-    pub later : left_in left b ≤ left_in left a
+    pub ready : IsReady source.can_next source.remaining b
+    pub later : left_in source.remaining b ≤ left_in source.remaining a
     pub leads : (st : State) (c : LiteralContext) (other : TokenKind → Transition)
-        → StandsBefore text a st (opens_literal c other)
-        → LeadsTo text steps a b st (or_literal c other (option_literal_of l))
+        → StandsBefore texts.text a st (opens_literal c other)
+        → LeadsTo texts.text source.next_gives a b st (or_literal c other (option_literal_of l))
 
   -- an optional default was read, or the refusal is the machine's
   abbrev pub ReadsDefault : Reader X I → Reader X I → Result (Option RustLiteral) Fault → Type 0
   ReadsDefault a b r = MatchResult r (λ l. GivesDefault a b l)
       (λ e. Blames e (λ o. (st : State) (c : LiteralContext) (other : TokenKind → Transition)
-      → StandsBefore text a st (opens_literal c other) → Came text steps a (at st) o))
+      → StandsBefore texts.text a st (opens_literal c other) → Came texts.text source.next_gives a (at st) o))

@@ -314,8 +314,8 @@ check_stmt-returns-in_ok-env-in-Assert-clause-walked g t c =
     let K = standing_in S old c.args.env in
     let condition = expr_of c.in-Assert.condition.value in
     let message = option_expr_of c.in-Assert.text in
-    let behind = rw c.deref.ensures standing_here a.behind.is in
-    let pushed = rw c.deref.ensures standing_here a.finds.pushed in
+    let behind = rw c.deref.ensures at a.behind.is in
+    let pushed = rw c.deref.ensures at a.finds.pushed in
     rw c.in-Assert.is (record {
       is = λ i. record {
         table = env_of S.tree (a.finds.declared i);
@@ -338,7 +338,7 @@ check_stmt-returns-in_ok-env-in-Annotated-clause-walked g t c =
     let S = g.S.TypeStore in
     let old = c.args.walk.now in
     let new = c.bind_annotated.new.walk in
-    let b = rw c.deref-in-Annotated.ensures standing_here c.in_ok-env-in-Annotated.ensures.bound in
+    let b = rw c.deref-in-Annotated.ensures at c.in_ok-env-in-Annotated.ensures.bound in
     let way = c.args.exit.now.env in
     rw c.in-Annotated.is (record {
       is = ap (behind_binding (body_context_in S old) (option_map (env_of S.tree) way)) b.is;
@@ -358,7 +358,7 @@ check_stmt-returns-in_ok-env-in-Assign-clause-walked g t c =
     let S = g.S.TypeStore in
     let old = c.args.walk.now in
     let new = c.assign_target.new.walk in
-    let b = rw c.deref-in-Assign.ensures standing_here c.in_ok-env-in-Assign.ensures.bound in
+    let b = rw c.deref-in-Assign.ensures at c.in_ok-env-in-Assign.ensures.bound in
     let way = c.args.exit.now.env in
     rw c.in-Assign.is (record {
       is = ap (behind_binding (body_context_in S old) (option_map (env_of S.tree) way)) b.is;
@@ -784,13 +784,13 @@ check_otherwise-check_suite-requires g t c κs within = (
   ),
 )
 
-pub check_otherwise-meet-requires-clause-ways : goal.check_otherwise-meet-requires-clause-ways
-check_otherwise-meet-requires-clause-ways g t c =
+pub check_otherwise-join_exit-requires-clause-ways : goal.check_otherwise-join_exit-requires-clause-ways
+check_otherwise-join_exit-requires-clause-ways g t c =
     way_kept g.S.TypeStore c.args.walk.now c.check_suite.new.walk c.args.fork.ways.met
     c.check_suite.ensures.goes_on c.requires.ways
 
-pub check_otherwise-meet-requires-clause-taken_in : goal.check_otherwise-meet-requires-clause-taken_in
-check_otherwise-meet-requires-clause-taken_in g t c =
+pub check_otherwise-join_exit-requires-clause-taken_in : goal.check_otherwise-join_exit-requires-clause-taken_in
+check_otherwise-join_exit-requires-clause-taken_in g t c =
     let S = g.S.TypeStore in
     let old = c.args.walk.now in
     let new = c.check_suite.new.walk in
@@ -1012,13 +1012,13 @@ check_branch-check_suite-requires g t c κs within =
       ),
     )
 
-pub check_branch-meet-requires-clause-ways : goal.check_branch-meet-requires-clause-ways
-check_branch-meet-requires-clause-ways g t c =
+pub check_branch-join_exit-requires-clause-ways : goal.check_branch-join_exit-requires-clause-ways
+check_branch-join_exit-requires-clause-ways g t c =
     way_kept g.S.TypeStore c.args.walk.now c.check_suite.new.walk c.args.fork.ways.met
     (goes_further c.type_condition.ensures.goes_on c.check_suite.ensures.goes_on) c.requires.ways
 
-pub check_branch-meet-requires-clause-taken_in : goal.check_branch-meet-requires-clause-taken_in
-check_branch-meet-requires-clause-taken_in g t c =
+pub check_branch-join_exit-requires-clause-taken_in : goal.check_branch-join_exit-requires-clause-taken_in
+check_branch-join_exit-requires-clause-taken_in g t c =
     let S = g.S.TypeStore in
     let old = c.args.walk.now in
     let mid = c.type_condition.new.walk in

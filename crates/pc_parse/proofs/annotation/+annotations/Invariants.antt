@@ -19,7 +19,7 @@ invariant-arguments-loop-arguments g l = record {
   ready : IsReady g.I.Iterator.can_next g.I.Iterator.remaining l.reader;
   later : left_in g.I.Iterator.remaining l.reader ≤ left_in g.I.Iterator.remaining l.fn.reader;
   arguments : (ts : List Lexeme) → Starts ts l.fn.head.place.start
-      → ArgumentsSoFar g.X.AsStr.text g.I.Iterator.next_gives g.I.Iterator.can_next g.I.Iterator.remaining l.fn.reader
+      → ArgumentsSoFar g.X.AsStr g.I.Iterator l.fn.reader
       l.reader l.arguments l.fn.head ts;
 }
 
@@ -30,7 +30,7 @@ abbrev pub invariant-union-loop-parts : goal.invariant-union-loop-parts
 invariant-union-loop-parts g l = record {
   ready : IsReady g.I.Iterator.can_next g.I.Iterator.remaining l.reader;
   later : left_in g.I.Iterator.remaining l.reader < left_in g.I.Iterator.remaining l.fn.reader;
-  parts : PartsSoFar g.X.AsStr.text g.I.Iterator.next_gives g.I.Iterator.can_next g.I.Iterator.remaining l.fn.reader
+  parts : PartsSoFar g.X.AsStr g.I.Iterator l.fn.reader
       l.reader l.parts l.start;
 }
 

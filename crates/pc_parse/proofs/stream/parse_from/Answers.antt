@@ -26,7 +26,7 @@ returns-in_err-module-clause-refused g c = let p = err_from_is_err_and c.from_re
     (ap (λ (q : Parser g.row.X.Denot g.row.I.Denot). q.reader) c.new-parser.ensures) w)) c.in_err-module.ensures.read))
 
 pub returns-in-Some-clause-refused : goal.returns-in-Some-clause-refused
-returns-in-Some-clause-refused g c = inl (deep_module g.X.AsStr.text g.I.Iterator.next_gives c.args.tokens
+returns-in-Some-clause-refused g c = inl (deep_module g.X.AsStr g.I.Iterator c.args.tokens
     (λ st o x. c.in_ok-reader.ensures.leads st o (subst (λ z. Came g.X.AsStr.text g.I.Iterator.next_gives z st o)
     (ap (λ (q : Parser g.row.X.Denot g.row.I.Denot). q.reader) c.new-parser.ensures) x))
     (ap (λ (q : Parser g.row.X.Denot g.row.I.Denot). q.deep) c.new-parser.ensures) c.in_ok-module.ensures.read
@@ -34,7 +34,7 @@ returns-in-Some-clause-refused g c = inl (deep_module g.X.AsStr.text g.I.Iterato
     c.in-Some.is)
 
 pub returns-clause-read : goal.returns-clause-read
-returns-clause-read g c = shallow_module g.X.AsStr.text g.I.Iterator.next_gives c.args.tokens
+returns-clause-read g c = shallow_module g.X.AsStr g.I.Iterator c.args.tokens
     (λ st o x. c.in_ok-reader.ensures.leads st o (subst (λ z. Came g.X.AsStr.text g.I.Iterator.next_gives z st o)
     (ap (λ (q : Parser g.row.X.Denot g.row.I.Denot). q.reader) c.new-parser.ensures) x))
     (ap (λ (q : Parser g.row.X.Denot g.row.I.Denot). q.deep) c.new-parser.ensures) c.in_ok-module.ensures.read

@@ -14,7 +14,7 @@ pub returns-in_ok-text-in-Int : goal.returns-in_ok-text-in-Int
 returns-in_ok-text-in-Int g c = rw c.node.ensures (
   refl,
   λ v. record {
-    bare_part = (bare_part (λ q. number q (digits_of (lexeme g.X.AsStr.text c.args.token.now).text))
+    part = (bare_part (λ q. number q (digits_of (lexeme g.X.AsStr.text c.args.token.now).text))
         ((lexeme g.X.AsStr.text c.args.token.now) ∷ []));
     keeps = built _ 7 0 0 c.args.token.now.place.start c.args.token.now.place.end
         (λ q. number q (digits_of (lexeme g.X.AsStr.text c.args.token.now).text)) (λ q. refl) (λ q. refl) refl
@@ -31,7 +31,7 @@ pub returns-in_ok-text-in-Str : goal.returns-in_ok-text-in-Str
 returns-in_ok-text-in-Str g c = rw c.node-in-Str.ensures (
   refl,
   λ v. record {
-    bare_part = (bare_part (λ q. text q (characters_of (lexeme g.X.AsStr.text c.args.token.now).text))
+    part = (bare_part (λ q. text q (characters_of (lexeme g.X.AsStr.text c.args.token.now).text))
         ((lexeme g.X.AsStr.text c.args.token.now) ∷ []));
     keeps = built _ 7 0 0 c.args.token.now.place.start c.args.token.now.place.end
         (λ q. text q (characters_of (lexeme g.X.AsStr.text c.args.token.now).text)) (λ q. refl) (λ q. refl) refl
@@ -47,7 +47,7 @@ pub returns-in-Keyword-True : goal.returns-in-Keyword-True
 returns-in-Keyword-True g c = rw c.node-in-Keyword-True.ensures (
   refl,
   λ v. record {
-    bare_part = (bare_part (λ q. truth q true) ((lexeme g.X.AsStr.text c.args.token.now) ∷ []));
+    part = (bare_part (λ q. truth q true) ((lexeme g.X.AsStr.text c.args.token.now) ∷ []));
     keeps = built _ 7 0 0 c.args.token.now.place.start c.args.token.now.place.end (λ q. truth q true)
         (λ q. refl) (λ q. refl)
         refl (λ h. refl) (λ q. refl) ((lexeme g.X.AsStr.text c.args.token.now) ∷ [])
@@ -62,7 +62,7 @@ pub returns-in-Keyword-False : goal.returns-in-Keyword-False
 returns-in-Keyword-False g c = rw c.node-in-Keyword-False.ensures (
   refl,
   λ v. record {
-    bare_part = (bare_part (λ q. truth q false) ((lexeme g.X.AsStr.text c.args.token.now) ∷ []));
+    part = (bare_part (λ q. truth q false) ((lexeme g.X.AsStr.text c.args.token.now) ∷ []));
     keeps = built _ 7 0 0 c.args.token.now.place.start c.args.token.now.place.end (λ q. truth q false)
         (λ q. refl) (λ q. refl)
         refl (λ h. refl) (λ q. refl) ((lexeme g.X.AsStr.text c.args.token.now) ∷ [])
@@ -77,7 +77,7 @@ pub returns-in-Keyword-None : goal.returns-in-Keyword-None
 returns-in-Keyword-None g c = rw c.node-in-Keyword-None.ensures (
   refl,
   λ v. record {
-    bare_part = (bare_part (λ q. nothing q) ((lexeme g.X.AsStr.text c.args.token.now) ∷ []));
+    part = (bare_part (λ q. nothing q) ((lexeme g.X.AsStr.text c.args.token.now) ∷ []));
     keeps = built _ 7 0 0 c.args.token.now.place.start c.args.token.now.place.end (λ q. nothing q)
         (λ q. refl) (λ q. refl) refl
         (λ h. refl) (λ q. refl) ((lexeme g.X.AsStr.text c.args.token.now) ∷ [])
@@ -92,7 +92,7 @@ pub returns-in_ok-name-in_default : goal.returns-in_ok-name-in_default
 returns-in_ok-name-in_default g c = rw c.node-in_default.ensures (
   refl,
   λ v. record {
-    bare_part = name_part (lexeme g.X.AsStr.text c.args.token.now);
+    part = name_part (lexeme g.X.AsStr.text c.args.token.now);
     keeps = record {
       starts = starts_one (lexeme g.X.AsStr.text c.args.token.now) [];
       ends =

@@ -93,51 +93,51 @@ suite-loop-stmts-preserved g t c = let v = c.loop-stmts.invariant in let s = c.i
 }
 
 pub statement-returns-in-Pass : goal.statement-returns-in-Pass
-statement-returns-in-Pass g t c = refit g.X.AsStr.text g.I.Iterator.next_gives g.I.Iterator.can_next
-    g.I.Iterator.remaining (λ d b. stmts d b) _ _ c.args.self.now c.word.new.self c.word.result
+statement-returns-in-Pass g t c = refit g.X.AsStr g.I.Iterator (λ d b. stmts d b) _ _ c.args.self.now c.word.new.self
+    c.word.result
     (λ d k. λ u s h. ap (lead_turn s (lexeme g.X.AsStr.text u) u.kind) (c.lead.ensures u h ∙ ap lead_view c.in-Pass.is))
     c.word.ensures
 
 pub statement-returns-in-Break : goal.statement-returns-in-Break
-statement-returns-in-Break g t c = refit g.X.AsStr.text g.I.Iterator.next_gives g.I.Iterator.can_next
-    g.I.Iterator.remaining (λ d b. stmts d b) _ _ c.args.self.now c.word-in-Break.new.self c.word-in-Break.result
+statement-returns-in-Break g t c = refit g.X.AsStr g.I.Iterator (λ d b. stmts d b) _ _ c.args.self.now
+    c.word-in-Break.new.self c.word-in-Break.result
     (λ d k. λ u s h. ap (lead_turn s (lexeme g.X.AsStr.text u) u.kind)
     (c.lead.ensures u h ∙ ap lead_view c.in-Break.is)) c.word-in-Break.ensures
 
 pub statement-returns-in-Continue : goal.statement-returns-in-Continue
-statement-returns-in-Continue g t c = refit g.X.AsStr.text g.I.Iterator.next_gives g.I.Iterator.can_next
-    g.I.Iterator.remaining (λ d b. stmts d b) _ _ c.args.self.now c.word-in-Continue.new.self c.word-in-Continue.result
+statement-returns-in-Continue g t c = refit g.X.AsStr g.I.Iterator (λ d b. stmts d b) _ _ c.args.self.now
+    c.word-in-Continue.new.self c.word-in-Continue.result
     (λ d k. λ u s h. ap (lead_turn s (lexeme g.X.AsStr.text u) u.kind)
     (c.lead.ensures u h ∙ ap lead_view c.in-Continue.is)) c.word-in-Continue.ensures
 
 pub statement-returns-in-Return : goal.statement-returns-in-Return
-statement-returns-in-Return g t c = refit g.X.AsStr.text g.I.Iterator.next_gives g.I.Iterator.can_next
-    g.I.Iterator.remaining (λ d b. stmts d b) _ _ c.args.self.now c.returned.new.self c.returned.result
+statement-returns-in-Return g t c = refit g.X.AsStr g.I.Iterator (λ d b. stmts d b) _ _ c.args.self.now
+    c.returned.new.self c.returned.result
     (λ d k. λ u h. c.lead.ensures u h ∙ ap lead_view c.in-Return.is) c.returned.ensures
 
 pub statement-returns-in-Assert : goal.statement-returns-in-Assert
-statement-returns-in-Assert g t c = refit g.X.AsStr.text g.I.Iterator.next_gives g.I.Iterator.can_next
-    g.I.Iterator.remaining (λ d b. stmts d b) _ _ c.args.self.now c.asserted.new.self c.asserted.result
+statement-returns-in-Assert g t c = refit g.X.AsStr g.I.Iterator (λ d b. stmts d b) _ _ c.args.self.now
+    c.asserted.new.self c.asserted.result
     (λ d k. λ u h. c.lead.ensures u h ∙ ap lead_view c.in-Assert.is) c.asserted.ensures
 
 pub statement-returns-in-While : goal.statement-returns-in-While
-statement-returns-in-While g t c = refit g.X.AsStr.text g.I.Iterator.next_gives g.I.Iterator.can_next
-    g.I.Iterator.remaining (λ d b. stmts d b) _ _ c.args.self.now c.while_loop.new.self c.while_loop.result
+statement-returns-in-While g t c = refit g.X.AsStr g.I.Iterator (λ d b. stmts d b) _ _ c.args.self.now
+    c.while_loop.new.self c.while_loop.result
     (λ d k. λ u h. c.lead.ensures u h ∙ ap lead_view c.in-While.is) c.while_loop.ensures
 
 pub statement-returns-in-For : goal.statement-returns-in-For
-statement-returns-in-For g t c = refit g.X.AsStr.text g.I.Iterator.next_gives g.I.Iterator.can_next
-    g.I.Iterator.remaining (λ d b. stmts d b) _ _ c.args.self.now c.for_loop.new.self c.for_loop.result
+statement-returns-in-For g t c = refit g.X.AsStr g.I.Iterator (λ d b. stmts d b) _ _ c.args.self.now c.for_loop.new.self
+    c.for_loop.result
     (λ d k. λ u h. c.lead.ensures u h ∙ ap lead_view c.in-For.is) c.for_loop.ensures
 
 pub statement-returns-in-If : goal.statement-returns-in-If
-statement-returns-in-If g t c = refit g.X.AsStr.text g.I.Iterator.next_gives g.I.Iterator.can_next
-    g.I.Iterator.remaining (λ d b. stmts d b) _ _ c.args.self.now c.conditional.new.self c.conditional.result
+statement-returns-in-If g t c = refit g.X.AsStr g.I.Iterator (λ d b. stmts d b) _ _ c.args.self.now
+    c.conditional.new.self c.conditional.result
     (λ d k. λ u h. c.lead.ensures u h ∙ ap lead_view c.in-If.is) c.conditional.ensures
 
 pub statement-returns-in-Other : goal.statement-returns-in-Other
-statement-returns-in-Other g t c = refit g.X.AsStr.text g.I.Iterator.next_gives g.I.Iterator.can_next
-    g.I.Iterator.remaining (λ d b. stmts d b) _ _ c.args.self.now c.line.new.self c.line.result
+statement-returns-in-Other g t c = refit g.X.AsStr g.I.Iterator (λ d b. stmts d b) _ _ c.args.self.now c.line.new.self
+    c.line.result
     (λ d k. λ u h. c.lead.ensures u h ∙ ap lead_view c.in-Other.is) c.line.ensures
 
 pub statement-returns-in-Dedent : goal.statement-returns-in-Dedent
@@ -401,7 +401,7 @@ otherwise-returns-in_err-expect g t c = let u = c.in_ok-take.ensures in let q =
 
 pub otherwise-returns : goal.otherwise-returns
 otherwise-returns g t c = let u = c.in_ok-take.ensures in let i = c.in_ok-expect.ensures in
-    else_read g.X.AsStr.text g.I.Iterator.next_gives g.I.Iterator.can_next g.I.Iterator.remaining c.args.self.now
+    else_read g.X.AsStr g.I.Iterator c.args.self.now
     (record c.args.self.now { reader = c.expect.new.self }) c.suite.new.self c.suite.result refl
     (let l = u.later in let m = i.taken.later in omega arith)
     (λ bs site n o x. step_to (after_branch bs site) (fixed (a_kind (kind.Operator sign.Colon))

@@ -25,15 +25,14 @@ abbrev pub decreases-conditional : goal.decreases-conditional
 decreases-conditional g l = 8 * left_in g.I.Iterator.remaining l.self.now.reader
 
 abbrev pub invariant-suite-loop-stmts : goal.invariant-suite-loop-stmts
-invariant-suite-loop-stmts g l = StmtsSoFar g.X.AsStr.text g.I.Iterator.next_gives g.I.Iterator.can_next
-    g.I.Iterator.remaining l.fn.self l.self l.stmts.items
+invariant-suite-loop-stmts g l = StmtsSoFar g.X.AsStr g.I.Iterator l.fn.self l.self l.stmts.items
 
 abbrev pub decreases-suite-loop-stmts : goal.decreases-suite-loop-stmts
 decreases-suite-loop-stmts g l = left_in g.I.Iterator.remaining l.self.reader
 
 abbrev pub invariant-conditional-loop-branches : goal.invariant-conditional-loop-branches
-invariant-conditional-loop-branches g l = BranchesSoFar g.X.AsStr.text g.I.Iterator.next_gives g.I.Iterator.can_next
-    g.I.Iterator.remaining l.first.place l.fn.self l.self l.branches.items
+invariant-conditional-loop-branches g l = BranchesSoFar g.X.AsStr g.I.Iterator l.first.place l.fn.self l.self
+    l.branches.items
 
 abbrev pub decreases-conditional-loop-branches : goal.decreases-conditional-loop-branches
 decreases-conditional-loop-branches g l = left_in g.I.Iterator.remaining l.self.reader

@@ -43,7 +43,7 @@ returns-in_err-value g c = let n = name_of c.args.name in let p = c.args.first i
 pub returns-then-sees : goal.returns-then-sees
 returns-then-sees g c = let n = name_of c.args.name in let p = c.args.first in let a = c.in_ok-annotation.ensures in
     let u = c.in_ok-take.ensures in let v = c.in_ok-value.ensures in
-    line_ended g.X.AsStr.text g.I.Iterator.next_gives g.I.Iterator.can_next g.I.Iterator.remaining
+    line_ended g.X.AsStr g.I.Iterator
     (λ d b. part_due no_anns [] (ann_whole (of_local n (site_at p d b))))
     (λ d b. have c.in_ok-value.value.level v.part
     (whole (in_statement (annotated_value n a.annotation) (site_at p d b)))) _
@@ -70,7 +70,7 @@ returns-then-sees g c = let n = name_of c.args.name in let p = c.args.first in l
 
 pub returns : goal.returns
 returns g c = let n = name_of c.args.name in let p = c.args.first in let a = c.in_ok-annotation.ensures in
-    line_ended g.X.AsStr.text g.I.Iterator.next_gives g.I.Iterator.can_next g.I.Iterator.remaining
+    line_ended g.X.AsStr g.I.Iterator
     (λ d b. part_due no_anns [] (ann_whole (of_local n (site_at p d b))))
     (λ d b. a.behind (of_local n (site_at p d b))) _
     c.args.self.now c.annotation.new.self c.line_end-2.new.self _ c.line_end-2.result (annotated p n a.annotation None)

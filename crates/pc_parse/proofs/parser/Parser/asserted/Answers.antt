@@ -53,7 +53,7 @@ returns-in_err-message g c = let t = c.in_ok-first.ensures in let p = c.in_ok-fi
 pub returns-then-sees : goal.returns-then-sees
 returns-then-sees g c = let t = c.in_ok-first.ensures in let p = c.in_ok-first.first.place in let v =
     c.in_ok-condition.ensures in let u = c.in_ok-take.ensures in let m = c.in_ok-message.ensures in
-    line_ended g.X.AsStr.text g.I.Iterator.next_gives g.I.Iterator.can_next g.I.Iterator.remaining (λ d b. stmts d b)
+    line_ended g.X.AsStr g.I.Iterator (λ d b. stmts d b)
     (λ d b. have c.in_ok-message.message.level m.part
     (whole (in_statement (asserted_with v.part.tree) (site_at p d b)))) _
     c.args.self.now c.expression-then-sees.new.self c.line_end.new.self _ c.line_end.result
@@ -82,7 +82,7 @@ returns-then-sees g c = let t = c.in_ok-first.ensures in let p = c.in_ok-first.f
 
 pub returns : goal.returns
 returns g c = let t = c.in_ok-first.ensures in let p = c.in_ok-first.first.place in let v = c.in_ok-condition.ensures in
-    line_ended g.X.AsStr.text g.I.Iterator.next_gives g.I.Iterator.can_next g.I.Iterator.remaining (λ d b. stmts d b)
+    line_ended g.X.AsStr g.I.Iterator (λ d b. stmts d b)
     (λ d b. have c.in_ok-condition.condition.level v.part (whole (in_statement asserted (site_at p d b)))) _
     c.args.self.now c.expression.new.self c.line_end-2.new.self _ c.line_end-2.result (asserts p v.part.tree None)
     (keep_one _ (λ x. asserts p x None) (λ x. refl) (ap (λ z. asserts p (expr_of z) None) c.in_ok-boxed.ensures.ok)

@@ -10,7 +10,7 @@ returns-in_err-operand g c = let p = err_from_is_err_and c.from_residual.result 
     rw (p.1, p.2) (blame (λ o w. λ x. w (whole x) refl) c.in_err-operand.ensures.reads)
 
 pub returns : goal.returns
-returns g c = let q = c.in_ok-operand.ensures in whole_given g.X.AsStr.text g.I.Iterator.next_gives
-    g.I.Iterator.can_next g.I.Iterator.remaining c.args.self.now c.note.new.self c.operators.new.self
+returns g c = let q = c.in_ok-operand.ensures in whole_given g.X.AsStr g.I.Iterator c.args.self.now c.note.new.self
+    c.operators.new.self
     c.in_ok-operand.operand
     c.note.ensures.reader c.note.ensures.deep q.reads q.over q.undotted

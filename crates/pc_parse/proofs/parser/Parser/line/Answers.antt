@@ -76,7 +76,7 @@ returns-then-sees g c = let v = c.in_ok-begun.ensures in let u = c.in_ok-take.en
     a_target c.in_ok-begun.begun v.part _ v.keeps c.in-Some-target.ensures in let y = c.in_ok-value.ensures in
     let n = first_place v.part.tokens in let e = first_is c.args.self.now.reader.ahead c.in-Some.first n
     (sym c.place.ensures ∙ c.in-Some.is) v.begins in
-    line_ended g.X.AsStr.text g.I.Iterator.next_gives g.I.Iterator.can_next g.I.Iterator.remaining (λ d b. stmts d b)
+    line_ended g.X.AsStr g.I.Iterator (λ d b. stmts d b)
     (λ d b. have c.in_ok-value.value.level y.part (whole (in_statement (assigned i.tree) (line_site d b v.part)))) _
     c.args.self.now c.expression-then-sees.new.self c.line_end.new.self _ c.line_end.result
     (assigns n i.tree y.part.tree)
@@ -129,7 +129,7 @@ returns-then-sees-2 g c = let v = c.in_ok-begun.ensures in let u = c.in_ok-take-
     name_of c.in-Some-plain_name.name in
     let n = first_place v.part.tokens in let e = first_is c.args.self.now.reader.ahead c.in-Some.first n
     (sym c.place.ensures ∙ c.in-Some.is) v.begins in
-    line_continued g.X.AsStr.text g.I.Iterator.next_gives g.I.Iterator.can_next g.I.Iterator.remaining
+    line_continued g.X.AsStr g.I.Iterator
     (λ d b. stmts d b) (λ d b. part_due no_anns [] (ann_whole (of_local m (site_at c.in-Some.first d b)))) _
     c.args.self.now (record c.expression.new.self { reader = c.take-then-sees-2.new.self }) c.annotated.new.self
     c.annotated.result
@@ -150,7 +150,7 @@ returns-then-sees-2 g c = let v = c.in_ok-begun.ensures in let u = c.in_ok-take-
 pub returns : goal.returns
 returns g c = let v = c.in_ok-begun.ensures in let n = first_place v.part.tokens in let e =
     first_is c.args.self.now.reader.ahead c.in-Some.first n (sym c.place.ensures ∙ c.in-Some.is) v.begins in
-    line_ended g.X.AsStr.text g.I.Iterator.next_gives g.I.Iterator.can_next g.I.Iterator.remaining (λ d b. stmts d b)
+    line_ended g.X.AsStr g.I.Iterator (λ d b. stmts d b)
     (λ d b. have c.in_ok-begun.begun.level v.part (whole (in_line d b))) _
     c.args.self.now c.expression.new.self c.line_end-2.new.self _ c.line_end-2.result (evaluates n v.part.tree)
     (keep_one _ (λ x. evaluates n x) (λ x. refl) (ap (λ z. evaluates z (expr_of c.in_ok-begun.begun.expr)) (sym e))

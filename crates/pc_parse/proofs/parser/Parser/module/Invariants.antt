@@ -5,7 +5,7 @@ use Rattle.pc_parse.proofs.parser.Parser.module.Given as goal
 abbrev pub invariant-loop-items : goal.invariant-loop-items
 invariant-loop-items g l = record {
   ready : IsReady g.I.Iterator.can_next g.I.Iterator.remaining l.self.reader;
-  items : ItemsSoFar g.X.AsStr.text g.I.Iterator.next_gives g.I.Iterator.can_next g.I.Iterator.remaining l.fn.self
+  items : ItemsSoFar g.X.AsStr g.I.Iterator l.fn.self
       l.self l.headers l.items;
 }
 

@@ -7,7 +7,7 @@ abbrev pub invariant-loop-alloc : goal.invariant-loop-alloc
 invariant-loop-alloc g l = record {
   ready : IsReady g.I.Iterator.can_next g.I.Iterator.remaining l.self.reader;
   later : left_in g.I.Iterator.remaining l.self.reader ≤ left_in g.I.Iterator.remaining l.fn.self.reader;
-  params : ParamsSoFar g.X.AsStr.text g.I.Iterator.next_gives g.I.Iterator.can_next g.I.Iterator.remaining l.fn.self
+  params : ParamsSoFar g.X.AsStr g.I.Iterator l.fn.self
       l.self l.params;
 }
 

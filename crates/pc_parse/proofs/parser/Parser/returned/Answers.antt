@@ -22,7 +22,7 @@ returns-in_err-first g c = let p = err_from_is_err_and c.from_residual.result c.
 
 pub returns-then-sees : goal.returns-then-sees
 returns-then-sees g c = let t = c.in_ok-first.ensures in let p = c.in_ok-first.first.place in
-    line_ended g.X.AsStr.text g.I.Iterator.next_gives g.I.Iterator.can_next g.I.Iterator.remaining (λ d b. stmts d b)
+    line_ended g.X.AsStr g.I.Iterator (λ d b. stmts d b)
     (λ d b. return_due (site_at p d b)) _ c.args.self.now (record c.args.self.now { reader = c.take.new.self })
     c.line_end.new.self _ c.line_end.result (returns_tree p None)
     (record { deep = sym (noted_nothing _); kept = λ e. refl }) (let l = t.later in omega arith)
@@ -48,7 +48,7 @@ returns-in_err-value g c = let t = c.in_ok-first.ensures in let p = c.in_ok-firs
 
 pub returns : goal.returns
 returns g c = let t = c.in_ok-first.ensures in let p = c.in_ok-first.first.place in let v = c.in_ok-value.ensures in
-    line_ended g.X.AsStr.text g.I.Iterator.next_gives g.I.Iterator.can_next g.I.Iterator.remaining (λ d b. stmts d b)
+    line_ended g.X.AsStr g.I.Iterator (λ d b. stmts d b)
     (λ d b. have c.in_ok-value.value.level v.part (whole (in_statement returned (site_at p d b)))) _ c.args.self.now
     c.expression.new.self c.line_end-2.new.self _ c.line_end-2.result (returns_tree p (Some v.part.tree))
     (keep_one _ (λ x. returns_tree p (Some x)) (λ x. refl) (ap (λ z. returns_tree p (Some (expr_of z)))

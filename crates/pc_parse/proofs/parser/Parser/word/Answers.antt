@@ -31,7 +31,7 @@ returns-in_err-first g c = let p = err_from_is_err_and c.from_residual.result c.
 pub returns : goal.returns
 returns g c = let t = c.in_ok-first.ensures in let s = stmt_of_kind c.in_ok-first.first.place
     (kind_of_word c.args.word) in
-    line_ended g.X.AsStr.text g.I.Iterator.next_gives g.I.Iterator.can_next g.I.Iterator.remaining (λ d b. stmts d b)
+    line_ended g.X.AsStr g.I.Iterator (λ d b. stmts d b)
     (λ d b. line_ends (stmts (add_stmt d s) b)) _ c.args.self.now
     (record c.args.self.now { reader = c.take.new.self }) c.line_end.new.self _ c.line_end.result s
     (record {

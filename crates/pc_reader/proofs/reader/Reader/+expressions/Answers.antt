@@ -51,7 +51,7 @@ atom-returns-in_err-items-clause-reads g t c = let p = err_from_is_err_and c.fro
 
 pub atom-returns-then-sees-2-clause-reads : goal.atom-returns-then-sees-2-clause-reads
 atom-returns-then-sees-2-clause-reads g t c = let n = c.in_ok-items.ensures in
-    bracketed g.X.AsStr.text g.I.Iterator.next_gives g.I.Iterator.can_next g.I.Iterator.remaining in_list no_exprs
+    bracketed g.X.AsStr g.I.Iterator in_list no_exprs
     ((lexeme g.X.AsStr.text c.in_ok-open.open) ∷ []) (n.lists in_list no_exprs
     ((lexeme g.X.AsStr.text c.in_ok-open.open) ∷ []) refl c.new.ensures)
     (starts_one (lexeme g.X.AsStr.text c.in_ok-open.open) [])
@@ -67,7 +67,7 @@ call-loop-self-init g t c = record {
   ready = c.requires.ready;
   later = omega arith;
   arguments =
-      λ e ts. items_none g.X.AsStr.text g.I.Iterator.next_gives g.I.Iterator.can_next g.I.Iterator.remaining
+      λ e ts. items_none g.X.AsStr g.I.Iterator
       c.args.self.now c.new-items.result (in_call e) no_exprs ts (λ k. c.new-items.ensures);
 }
 
@@ -82,8 +82,8 @@ call-returns-then-sees g t c = let n = c.in_ok-close.ensures in on_result c.call
   level_is = j.0;
   ready = n.ready;
   later = omega (arith, c.loop-self.invariant.later, n.later);
-  goes = λ k p kp. called_with g.X.AsStr.text g.I.Iterator.next_gives g.I.Iterator.can_next g.I.Iterator.remaining k p
-      kp (items_end g.X.AsStr.text g.I.Iterator.next_gives g.I.Iterator.can_next g.I.Iterator.remaining
+  goes = λ k p kp. called_with g.X.AsStr g.I.Iterator k p
+      kp (items_end g.X.AsStr g.I.Iterator
       (c.loop-self.invariant.arguments p.tree (p.tokens ++ (k ∷ []))) n
       (kind_seen (kind.Operator sign.RightParenthesis) (sym c.sees.ensures ∙ c.if-sees.true) c.in_ok-close.ensures.here)
       tt) (λ es ke. j.1 p es no_keywords kp ke c.new.ensures);
@@ -99,8 +99,8 @@ call-returns-in_err-item g t c = let p = err_from_is_err_and c.from_residual-in_
 
 pub call-returns-in_default : goal.call-returns-in_default
 call-returns-in_default g t c = blame (λ o w. λ k p s kp. let v = c.loop-self.invariant.arguments p.tree
-    (p.tokens ++ (k ∷ [])) in let q = c.in_ok-item.ensures.reads in item_read g.X.AsStr.text g.I.Iterator.next_gives
-    g.I.Iterator.can_next g.I.Iterator.remaining v s (sym c.sees.ensures ∙ c.if-sees.false) q o
+    (p.tokens ++ (k ∷ [])) in let q = c.in_ok-item.ensures.reads in item_read g.X.AsStr g.I.Iterator v s
+    (sym c.sees.ensures ∙ c.if-sees.false) q o
     (w (have c.in_ok-item.item.level q.part (listing (in_call p.tree) v.items ((p.tokens ++ (k ∷ [])) ++ v.more) s))
     (record {
       unfinished = refl;
@@ -114,8 +114,8 @@ pub call-returns-in_err-take : goal.call-returns-in_err-take
 call-returns-in_err-take g t c = let p = err_from_is_err_and c.from_residual-in_err-take.result
     c.from_residual-in_err-take.ensures.1 in
     rw (p.1, p.2) (blame (λ o w. λ k p s kp. let v = c.loop-self.invariant.arguments p.tree (p.tokens ++ (k ∷ [])) in
-    let q = c.in_ok-item.ensures.reads in item_read g.X.AsStr.text g.I.Iterator.next_gives g.I.Iterator.can_next
-    g.I.Iterator.remaining v s (sym c.sees.ensures ∙ c.if-sees.false) q o
+    let q = c.in_ok-item.ensures.reads in item_read g.X.AsStr g.I.Iterator v s (sym c.sees.ensures ∙ c.if-sees.false) q
+    o
     (w (at (have c.in_ok-item.item.level q.part (listing (in_call p.tree) v.items ((p.tokens ++ (k ∷ [])) ++ v.more)
     s))) (λ _. refl))) c.in_err-take.ensures)
 
@@ -123,8 +123,8 @@ pub call-returns-in_err-keywords : goal.call-returns-in_err-keywords
 call-returns-in_err-keywords g t c = let p = err_from_is_err_and c.from_residual-in_err-keywords.result
     c.from_residual-in_err-keywords.ensures.1 in
     rw (p.1, p.2) (blame (λ o w. λ k p s kp. let v = c.loop-self.invariant.arguments p.tree (p.tokens ++ (k ∷ [])) in
-    let q = c.in_ok-item.ensures.reads in item_read g.X.AsStr.text g.I.Iterator.next_gives g.I.Iterator.can_next
-    g.I.Iterator.remaining v s (sym c.sees.ensures ∙ c.if-sees.false) q o
+    let q = c.in_ok-item.ensures.reads in item_read g.X.AsStr g.I.Iterator v s (sym c.sees.ensures ∙ c.if-sees.false) q
+    o
     (step_to (have c.in_ok-item.item.level q.part (listing (in_call p.tree) v.items
     ((p.tokens ++ (k ∷ [])) ++ v.more) s)) (operand (naming p.tree v.items no_keywords (name_of c.in-Some.name)
     (((p.tokens ++ (k ∷ [])) ++ v.more) ++ (q.part.tokens ++ ((lexeme g.X.AsStr.text c.in_ok-take.field-0) ∷ [])))
@@ -152,7 +152,7 @@ call-returns-then-sees-2 g t c = let m = c.in_ok-keywords.ensures in on_result c
           c.in_ok-item.ensures.reads in let n = m.names p.tree v.items
           (((p.tokens ++ (k ∷ [])) ++ v.more)
           ++ (q.part.tokens ++ ((lexeme g.X.AsStr.text c.in_ok-take.field-0) ∷ []))) in record {
-            bare_part = call_part p.tree v.items n.arguments
+            part = call_part p.tree v.items n.arguments
                 ((((p.tokens ++ (k ∷ [])) ++ v.more)
                 ++ (q.part.tokens ++ ((lexeme g.X.AsStr.text c.in_ok-take.field-0) ∷ []))) ++ n.more);
             keeps = j.1 p v.items n.arguments kp (v.keeps tt) n.keeps _
@@ -162,8 +162,7 @@ call-returns-then-sees-2 g t c = let m = c.in_ok-keywords.ensures in on_result c
             begins = first_more _ (starts_more _ (starts_more _ (starts_more (k ∷ []) kp.starts)))
                 ∙ first_more _ (starts_more _ (starts_more (k ∷ []) kp.starts))
                 ∙ first_more _ (starts_more (k ∷ []) kp.starts) ∙ first_more _ kp.starts;
-            leads = λ s o x. item_read g.X.AsStr.text g.I.Iterator.next_gives g.I.Iterator.can_next
-                g.I.Iterator.remaining v s (sym c.sees.ensures ∙ c.if-sees.false) q o
+            leads = λ s o x. item_read g.X.AsStr g.I.Iterator v s (sym c.sees.ensures ∙ c.if-sees.false) q o
                 (step_to (have c.in_ok-item.item.level q.part (listing (in_call p.tree) v.items
                 ((p.tokens ++ (k ∷ [])) ++ v.more) s))
                 (operand (naming p.tree v.items no_keywords (name_of c.in-Some.name)
@@ -180,8 +179,8 @@ pub call-returns-in_err-close-2 : goal.call-returns-in_err-close-2
 call-returns-in_err-close-2 g t c = let p = err_from_is_err_and c.from_residual-in_err-close-2.result
     c.from_residual-in_err-close-2.ensures.1 in
     rw (p.1, p.2) (blame (λ o w. λ k p s kp. let v = c.loop-self.invariant.arguments p.tree (p.tokens ++ (k ∷ [])) in
-    let q = c.in_ok-item.ensures.reads in item_read g.X.AsStr.text g.I.Iterator.next_gives g.I.Iterator.can_next
-    g.I.Iterator.remaining v s (sym c.sees.ensures ∙ c.if-sees.false) q o
+    let q = c.in_ok-item.ensures.reads in item_read g.X.AsStr g.I.Iterator v s (sym c.sees.ensures ∙ c.if-sees.false) q
+    o
     (w (have c.in_ok-item.item.level q.part (listing (in_call p.tree) v.items ((p.tokens ++ (k ∷ [])) ++ v.more) s))
     (needs_end g.X.AsStr.text (kind.Operator sign.RightParenthesis) c.in_ok-item.item.level q.part
     (listing (in_call p.tree) v.items ((p.tokens ++ (k ∷ [])) ++ v.more) s) c.operators.new.self refl
@@ -197,8 +196,8 @@ call-returns-then-not-sees g t c = let n = c.in_ok-close-2.ensures in let q = c.
       level_is = j.0;
       ready = n.taken.ready;
       later = omega (arith, c.loop-self.invariant.later, q.later, n.taken.later);
-      goes = λ k p kp. called_with g.X.AsStr.text g.I.Iterator.next_gives g.I.Iterator.can_next g.I.Iterator.remaining
-          k p kp (item_last g.X.AsStr.text g.I.Iterator.next_gives g.I.Iterator.can_next g.I.Iterator.remaining
+      goes = λ k p kp. called_with g.X.AsStr g.I.Iterator
+          k p kp (item_last g.X.AsStr g.I.Iterator
           (c.loop-self.invariant.arguments p.tree (p.tokens ++ (k ∷ []))) (sym c.sees.ensures ∙ c.if-sees.false) q
           c.in_ok-push.ensures n.taken n.kind tt) (λ es ke. j.1 p es no_keywords kp ke c.new-then-not-sees.ensures);
     }) c.called-then-not-sees.ensures
@@ -207,8 +206,8 @@ pub call-returns-in_err-take-2 : goal.call-returns-in_err-take-2
 call-returns-in_err-take-2 g t c = let p = err_from_is_err_and c.from_residual-in_err-take-2.result
     c.from_residual-in_err-take-2.ensures.1 in
     rw (p.1, p.2) (blame (λ o w. λ k p s kp. let v = c.loop-self.invariant.arguments p.tree (p.tokens ++ (k ∷ [])) in
-    let q = c.in_ok-item.ensures.reads in item_read g.X.AsStr.text g.I.Iterator.next_gives g.I.Iterator.can_next
-    g.I.Iterator.remaining v s (sym c.sees.ensures ∙ c.if-sees.false) q o
+    let q = c.in_ok-item.ensures.reads in item_read g.X.AsStr g.I.Iterator v s (sym c.sees.ensures ∙ c.if-sees.false) q
+    o
     (w (at (have c.in_ok-item.item.level q.part (listing (in_call p.tree) v.items ((p.tokens ++ (k ∷ [])) ++ v.more)
     s))) (λ _. refl))) c.in_err-take-2.ensures)
 
@@ -217,7 +216,7 @@ call-loop-self-preserved-in_ok-take-2 g t c = let k = c.in_ok-take-2.ensures in 
     record {
       ready = k.ready;
       later = omega (arith, c.loop-self.invariant.later, q.later, k.later);
-      arguments = λ e ts. item_more g.X.AsStr.text g.I.Iterator.next_gives g.I.Iterator.can_next g.I.Iterator.remaining
+      arguments = λ e ts. item_more g.X.AsStr g.I.Iterator
           (c.loop-self.invariant.arguments e ts) (sym c.sees.ensures ∙ c.if-sees.false) q c.in_ok-push.ensures k
           (kind_seen (kind.Operator sign.Comma) (sym c.sees-in-loop-self-2.ensures ∙ c.if-not-sees.false) k.here);
     }
@@ -226,7 +225,7 @@ pub call-loop-self-preserved : goal.call-loop-self-preserved
 call-loop-self-preserved g t c = let k = c.in_ok-take-2.ensures in let q = c.in_ok-item.ensures.reads in record {
   ready = k.ready;
   later = omega (arith, c.loop-self.invariant.later, q.later, k.later);
-  arguments = λ e ts. item_more g.X.AsStr.text g.I.Iterator.next_gives g.I.Iterator.can_next g.I.Iterator.remaining
+  arguments = λ e ts. item_more g.X.AsStr g.I.Iterator
       (c.loop-self.invariant.arguments e ts) (sym c.sees.ensures ∙ c.if-sees.false) q c.in_ok-push.ensures k
       (kind_seen (kind.Operator sign.Comma) (sym c.sees-in-loop-self-2.ensures ∙ c.if-not-sees.false) k.here);
 }
@@ -259,8 +258,8 @@ dict-returns-in_err-close-clause-reads g t c = let p = err_from_is_err_and c.fro
     v.leads s r o (w (at (key_due v.entries v.tokens s)) (λ _. refl))) c.in_err-close.ensures)
 
 pub dict-returns-then-sees-clause-reads : goal.dict-returns-then-sees-clause-reads
-dict-returns-then-sees-clause-reads g t c = entries_end g.X.AsStr.text g.I.Iterator.next_gives g.I.Iterator.can_next
-    g.I.Iterator.remaining c.loop-self.invariant.entries c.in_ok-close.ensures
+dict-returns-then-sees-clause-reads g t c = entries_end g.X.AsStr g.I.Iterator c.loop-self.invariant.entries
+    c.in_ok-close.ensures
     (kind_seen (kind.Operator sign.RightBrace) (sym c.sees.ensures ∙ c.if-sees.true) c.in_ok-close.ensures.here)
     c.dict.ensures.0 c.dict.ensures.1 c.loop-self.invariant.later
 
@@ -275,7 +274,7 @@ pub dict-returns-in_err-expect-clause-reads : goal.dict-returns-in_err-expect-cl
 dict-returns-in_err-expect-clause-reads g t c = let p = err_from_is_err_and c.from_residual-in_err-expect.result
     c.from_residual-in_err-expect.ensures.1 in
     rw (p.1, p.2) (blame (λ o w. λ s r. let v = c.loop-self.invariant.entries in let q = c.in_ok-key.ensures.reads in
-    key_read g.X.AsStr.text g.I.Iterator.next_gives g.I.Iterator.can_next g.I.Iterator.remaining v s r
+    key_read g.X.AsStr g.I.Iterator v s r
     (sym c.sees.ensures ∙ c.if-sees.false) q o (w (have c.in_ok-key.key.level q.part (keying v.entries v.tokens s))
     (needs_end g.X.AsStr.text (kind.Operator sign.Colon) c.in_ok-key.key.level q.part (keying v.entries v.tokens s)
     c.operators.new.self refl c.in_ok-key.ensures.over c.in_ok-key.ensures.undotted
@@ -286,7 +285,7 @@ pub dict-returns-in_err-value-clause-reads : goal.dict-returns-in_err-value-clau
 dict-returns-in_err-value-clause-reads g t c = let p = err_from_is_err_and c.from_residual-in_err-value.result
     c.from_residual-in_err-value.ensures.1 in
     rw (p.1, p.2) (blame (λ o w. λ s r. let v = c.loop-self.invariant.entries in let q = c.in_ok-key.ensures.reads in
-    value_due g.X.AsStr.text g.I.Iterator.next_gives g.I.Iterator.can_next g.I.Iterator.remaining v s r
+    value_due g.X.AsStr g.I.Iterator v s r
     (sym c.sees.ensures ∙ c.if-sees.false) q c.in_ok-expect.ensures.taken c.in_ok-expect.ensures.kind o
     (w
     (valuing v.entries q.part.tree
@@ -297,8 +296,8 @@ pub dict-returns-in_err-close-2-clause-reads : goal.dict-returns-in_err-close-2-
 dict-returns-in_err-close-2-clause-reads g t c = let p = err_from_is_err_and c.from_residual-in_err-close-2.result
     c.from_residual-in_err-close-2.ensures.1 in
     rw (p.1, p.2) (blame (λ o w. λ s r. let v = c.loop-self.invariant.entries in let q = c.in_ok-key.ensures.reads in
-    let y = c.in_ok-value.ensures.reads in value_read g.X.AsStr.text g.I.Iterator.next_gives g.I.Iterator.can_next
-    g.I.Iterator.remaining v s r (sym c.sees.ensures ∙ c.if-sees.false) q c.in_ok-expect.ensures.taken
+    let y = c.in_ok-value.ensures.reads in value_read g.X.AsStr g.I.Iterator v s r
+    (sym c.sees.ensures ∙ c.if-sees.false) q c.in_ok-expect.ensures.taken
     c.in_ok-expect.ensures.kind y o
     (w (have c.in_ok-value.value.level y.part (valuing v.entries q.part.tree
     (v.tokens ++ (q.part.tokens ++ ((lexeme g.X.AsStr.text c.in_ok-expect.field-0) ∷ []))) s))
@@ -312,8 +311,8 @@ dict-returns-in_err-close-2-clause-reads g t c = let p = err_from_is_err_and c.f
     ∙ c.if-not-sees.true) e) n)))) c.in_err-close-2.ensures.taken)
 
 pub dict-returns-then-not-sees-clause-reads : goal.dict-returns-then-not-sees-clause-reads
-dict-returns-then-not-sees-clause-reads g t c = entry_last g.X.AsStr.text g.I.Iterator.next_gives g.I.Iterator.can_next
-    g.I.Iterator.remaining c.loop-self.invariant.entries (sym c.sees.ensures ∙ c.if-sees.false)
+dict-returns-then-not-sees-clause-reads g t c = entry_last g.X.AsStr g.I.Iterator c.loop-self.invariant.entries
+    (sym c.sees.ensures ∙ c.if-sees.false)
     c.in_ok-key.ensures.reads c.in_ok-expect.ensures.taken c.in_ok-expect.ensures.kind c.in_ok-value.ensures.reads
     c.in_ok-push.ensures c.in_ok-close-2.ensures.taken c.in_ok-close-2.ensures.kind c.dict-then-not-sees.ensures.0
     c.dict-then-not-sees.ensures.1 c.loop-self.invariant.later
@@ -322,8 +321,8 @@ pub dict-returns-in_err-take-clause-reads : goal.dict-returns-in_err-take-clause
 dict-returns-in_err-take-clause-reads g t c = let p = err_from_is_err_and c.from_residual-in_err-take.result
     c.from_residual-in_err-take.ensures.1 in
     rw (p.1, p.2) (blame (λ o w. λ s r. let v = c.loop-self.invariant.entries in let q = c.in_ok-key.ensures.reads in
-    let y = c.in_ok-value.ensures.reads in value_read g.X.AsStr.text g.I.Iterator.next_gives g.I.Iterator.can_next
-    g.I.Iterator.remaining v s r (sym c.sees.ensures ∙ c.if-sees.false) q c.in_ok-expect.ensures.taken
+    let y = c.in_ok-value.ensures.reads in value_read g.X.AsStr g.I.Iterator v s r
+    (sym c.sees.ensures ∙ c.if-sees.false) q c.in_ok-expect.ensures.taken
     c.in_ok-expect.ensures.kind y o
     (w
     (at (have c.in_ok-value.value.level y.part (valuing v.entries q.part.tree
@@ -341,7 +340,7 @@ dict-loop-self-preserved-in_ok-take g t c = let k = c.in_ok-take.ensures in reco
     c.in_ok-value.ensures.reads.later,
     k.later,
   );
-  entries = entry_more g.X.AsStr.text g.I.Iterator.next_gives g.I.Iterator.can_next g.I.Iterator.remaining
+  entries = entry_more g.X.AsStr g.I.Iterator
       c.loop-self.invariant.entries (sym c.sees.ensures ∙ c.if-sees.false) c.in_ok-key.ensures.reads
       c.in_ok-expect.ensures.taken c.in_ok-expect.ensures.kind c.in_ok-value.ensures.reads c.in_ok-push.ensures k
       (kind_seen (kind.Operator sign.Comma) (sym c.sees-in-loop-self.ensures ∙ c.if-not-sees.false)
@@ -359,7 +358,7 @@ dict-loop-self-preserved g t c = let k = c.in_ok-take.ensures in record {
     c.in_ok-value.ensures.reads.later,
     k.later,
   );
-  entries = entry_more g.X.AsStr.text g.I.Iterator.next_gives g.I.Iterator.can_next g.I.Iterator.remaining
+  entries = entry_more g.X.AsStr g.I.Iterator
       c.loop-self.invariant.entries (sym c.sees.ensures ∙ c.if-sees.false) c.in_ok-key.ensures.reads
       c.in_ok-expect.ensures.taken c.in_ok-expect.ensures.kind c.in_ok-value.ensures.reads c.in_ok-push.ensures k
       (kind_seen (kind.Operator sign.Comma) (sym c.sees-in-loop-self.ensures ∙ c.if-not-sees.false)
@@ -382,7 +381,7 @@ group-returns-in_err-close-clause-reads g t c = let p = err_from_is_err_and c.fr
 
 pub group-returns-then-sees-clause-reads : goal.group-returns-then-sees-clause-reads
 group-returns-then-sees-clause-reads g t c = let k = c.in_ok-close.ensures in record {
-  bare_part = (bare_part (λ p. tuple p no_exprs) ((lexeme g.X.AsStr.text c.in_ok-open.open)
+  part = (bare_part (λ p. tuple p no_exprs) ((lexeme g.X.AsStr.text c.in_ok-open.open)
       ∷ (lexeme g.X.AsStr.text c.in_ok-close.close) ∷ []));
   keeps = c.tuple.ensures.1 no_exprs c.new.ensures _ (starts_one (lexeme g.X.AsStr.text c.in_ok-open.open) _)
       (ends_more ((lexeme g.X.AsStr.text c.in_ok-open.open) ∷ [])
@@ -433,7 +432,7 @@ group-returns-in_err-close-2-clause-reads g t c = let p = err_from_is_err_and c.
 pub group-returns-then-sees-2-clause-reads : goal.group-returns-then-sees-2-clause-reads
 group-returns-then-sees-2-clause-reads g t c = let q = c.in_ok-first.ensures.reads in let k = c.in_ok-close-2.ensures in
     rw c.grouped.ensures (record {
-      bare_part = grouped ((lexeme g.X.AsStr.text c.in_ok-open.open) ∷ []) q.part
+      part = grouped ((lexeme g.X.AsStr.text c.in_ok-open.open) ∷ []) q.part
           (lexeme g.X.AsStr.text c.in_ok-close-2.close);
       keeps = keeps_grouped c.in_ok-first.first q.part (lexeme g.X.AsStr.text c.in_ok-open.open)
           (lexeme g.X.AsStr.text c.in_ok-close-2.close) q.keeps;
@@ -487,14 +486,15 @@ group-returns-in_err-items-clause-reads g t c = let p = err_from_is_err_and c.fr
     (step_to (have c.in_ok-first.first.level q.part (grouping ((lexeme g.X.AsStr.text c.in_ok-open.open) ∷ []) s))
     (item_due in_tuple (more_exprs q.part.tree no_exprs) ((lexeme g.X.AsStr.text c.in_ok-open.open)
     ∷ (q.part.tokens ++ ((lexeme g.X.AsStr.text c.in_ok-expect.field-0) ∷ []))) s) c.in_ok-expect.ensures.taken
-    (ap (transition (have c.in_ok-first.first.level q.part (grouping ((lexeme g.X.AsStr.text c.in_ok-open.open) ∷ []) s))
+    (ap (transition (have c.in_ok-first.first.level q.part (grouping ((lexeme g.X.AsStr.text c.in_ok-open.open) ∷ [])
+    s))
     (lexeme g.X.AsStr.text c.in_ok-expect.field-0)) c.in_ok-expect.ensures.kind) o
     (w in_tuple (more_exprs q.part.tree no_exprs) ((lexeme g.X.AsStr.text c.in_ok-open.open)
     ∷ (q.part.tokens ++ ((lexeme g.X.AsStr.text c.in_ok-expect.field-0) ∷ []))) s refl))))) c.in_err-items.ensures)
 
 pub group-returns-clause-reads : goal.group-returns-clause-reads
 group-returns-clause-reads g t c = let q = c.in_ok-first.ensures.reads in let n = c.in_ok-items.ensures in
-    bracketed g.X.AsStr.text g.I.Iterator.next_gives g.I.Iterator.can_next g.I.Iterator.remaining in_tuple
+    bracketed g.X.AsStr g.I.Iterator in_tuple
     (more_exprs q.part.tree no_exprs) ((lexeme g.X.AsStr.text c.in_ok-open.open)
     ∷ (q.part.tokens ++ ((lexeme g.X.AsStr.text c.in_ok-expect.field-0) ∷ [])))
     (n.lists in_tuple (more_exprs q.part.tree no_exprs) ((lexeme g.X.AsStr.text c.in_ok-open.open)
@@ -511,7 +511,8 @@ group-returns-clause-reads g t c = let q = c.in_ok-first.ensures.reads in let n 
     (step_to (have c.in_ok-first.first.level q.part (grouping ((lexeme g.X.AsStr.text c.in_ok-open.open) ∷ []) s))
     (item_due in_tuple (more_exprs q.part.tree no_exprs) ((lexeme g.X.AsStr.text c.in_ok-open.open)
     ∷ (q.part.tokens ++ ((lexeme g.X.AsStr.text c.in_ok-expect.field-0) ∷ []))) s) c.in_ok-expect.ensures.taken
-    (ap (transition (have c.in_ok-first.first.level q.part (grouping ((lexeme g.X.AsStr.text c.in_ok-open.open) ∷ []) s))
+    (ap (transition (have c.in_ok-first.first.level q.part (grouping ((lexeme g.X.AsStr.text c.in_ok-open.open) ∷ [])
+    s))
     (lexeme g.X.AsStr.text c.in_ok-expect.field-0)) c.in_ok-expect.ensures.kind) o (x))))) c.tuple-2.ensures.0
     c.tuple-2.ensures.1 n.ready (omega (
       arith,
@@ -526,7 +527,7 @@ items-loop-alloc-init g t c = record {
   ready = c.requires;
   later = omega arith;
   lists =
-      λ h xs ts cl. items_none g.X.AsStr.text g.I.Iterator.next_gives g.I.Iterator.can_next g.I.Iterator.remaining
+      λ h xs ts cl. items_none g.X.AsStr g.I.Iterator
       c.args.self.now c.args.some h xs ts (λ k. k);
 }
 
@@ -539,8 +540,7 @@ pub items-returns-then-sees : goal.items-returns-then-sees
 items-returns-then-sees g t c = let k = c.in_ok-last.ensures in record {
   ready = k.ready;
   later = omega (arith, c.loop-alloc.invariant.later, k.later);
-  lists = λ h xs ts cl kept. items_end g.X.AsStr.text g.I.Iterator.next_gives g.I.Iterator.can_next
-      g.I.Iterator.remaining (c.loop-alloc.invariant.lists h xs ts cl) k
+  lists = λ h xs ts cl kept. items_end g.X.AsStr g.I.Iterator (c.loop-alloc.invariant.lists h xs ts cl) k
       (kind_seen (kind.Operator c.args.close) (sym c.sees.ensures ∙ c.if-sees.true) k.here
       ∙ sym (closer_is h c.args.close cl)) kept;
 }
@@ -557,8 +557,8 @@ pub items-returns-in_err-last-2 : goal.items-returns-in_err-last-2
 items-returns-in_err-last-2 g t c = let p = err_from_is_err_and c.from_residual-in_err-last-2.result
     c.from_residual-in_err-last-2.ensures.1 in
     rw (p.1, p.2) (blame (λ o w. λ h xs ts s cl. let v = c.loop-alloc.invariant.lists h xs ts cl in let q =
-    c.in_ok-item.ensures.reads in item_read g.X.AsStr.text g.I.Iterator.next_gives g.I.Iterator.can_next
-    g.I.Iterator.remaining v s (not_closer c.loop-alloc.self.ahead h c.args.close cl
+    c.in_ok-item.ensures.reads in item_read g.X.AsStr g.I.Iterator v s
+    (not_closer c.loop-alloc.self.ahead h c.args.close cl
     (sym c.sees.ensures ∙ c.if-sees.false)) q o
     (w (have c.in_ok-item.item.level q.part (listing h v.items (ts ++ v.more) s))
     (needs_end g.X.AsStr.text (kind.Operator c.args.close) c.in_ok-item.item.level q.part
@@ -572,8 +572,7 @@ pub items-returns-then-not-sees : goal.items-returns-then-not-sees
 items-returns-then-not-sees g t c = let k = c.in_ok-last-2.ensures in let q = c.in_ok-item.ensures.reads in record {
   ready = k.taken.ready;
   later = omega (arith, c.loop-alloc.invariant.later, q.later, k.taken.later);
-  lists = λ h xs ts cl kept. item_last g.X.AsStr.text g.I.Iterator.next_gives g.I.Iterator.can_next
-      g.I.Iterator.remaining (c.loop-alloc.invariant.lists h xs ts cl)
+  lists = λ h xs ts cl kept. item_last g.X.AsStr g.I.Iterator (c.loop-alloc.invariant.lists h xs ts cl)
       (not_closer c.loop-alloc.self.ahead h c.args.close cl (sym c.sees.ensures ∙ c.if-sees.false)) q
       c.in_ok-push.ensures k.taken (k.kind ∙ sym (closer_is h c.args.close cl)) kept;
 }
@@ -582,8 +581,8 @@ pub items-returns-in_err-take : goal.items-returns-in_err-take
 items-returns-in_err-take g t c = let p = err_from_is_err_and c.from_residual-in_err-take.result
     c.from_residual-in_err-take.ensures.1 in
     rw (p.1, p.2) (blame (λ o w. λ h xs ts s cl. let v = c.loop-alloc.invariant.lists h xs ts cl in let q =
-    c.in_ok-item.ensures.reads in item_read g.X.AsStr.text g.I.Iterator.next_gives g.I.Iterator.can_next
-    g.I.Iterator.remaining v s (not_closer c.loop-alloc.self.ahead h c.args.close cl
+    c.in_ok-item.ensures.reads in item_read g.X.AsStr g.I.Iterator v s
+    (not_closer c.loop-alloc.self.ahead h c.args.close cl
     (sym c.sees.ensures ∙ c.if-sees.false)) q o
     (w (at (have c.in_ok-item.item.level q.part (listing h v.items (ts ++ v.more) s))) (λ _. refl)))
     c.in_err-take.ensures)
@@ -593,8 +592,7 @@ items-loop-alloc-preserved-in_ok-take g t c = let k = c.in_ok-take.ensures in le
     record {
       ready = k.ready;
       later = omega (arith, c.loop-alloc.invariant.later, q.later, k.later);
-      lists = λ h xs ts cl. item_more g.X.AsStr.text g.I.Iterator.next_gives g.I.Iterator.can_next
-          g.I.Iterator.remaining (c.loop-alloc.invariant.lists h xs ts cl)
+      lists = λ h xs ts cl. item_more g.X.AsStr g.I.Iterator (c.loop-alloc.invariant.lists h xs ts cl)
           (not_closer c.loop-alloc.self.ahead h c.args.close cl (sym c.sees.ensures ∙ c.if-sees.false)) q
           c.in_ok-push.ensures k
           (kind_seen (kind.Operator sign.Comma) (sym c.sees-in-loop-alloc.ensures ∙ c.if-not-sees.false) k.here);
@@ -604,7 +602,7 @@ pub items-loop-alloc-preserved : goal.items-loop-alloc-preserved
 items-loop-alloc-preserved g t c = let k = c.in_ok-take.ensures in let q = c.in_ok-item.ensures.reads in record {
   ready = k.ready;
   later = omega (arith, c.loop-alloc.invariant.later, q.later, k.later);
-  lists = λ h xs ts cl. item_more g.X.AsStr.text g.I.Iterator.next_gives g.I.Iterator.can_next g.I.Iterator.remaining
+  lists = λ h xs ts cl. item_more g.X.AsStr g.I.Iterator
       (c.loop-alloc.invariant.lists h xs ts cl) (not_closer c.loop-alloc.self.ahead h c.args.close cl
       (sym c.sees.ensures ∙ c.if-sees.false)) q c.in_ok-push.ensures k
       (kind_seen (kind.Operator sign.Comma) (sym c.sees-in-loop-alloc.ensures ∙ c.if-not-sees.false) k.here);
@@ -615,7 +613,7 @@ keywords-loop-name-init g t c = record {
   ready = c.requires;
   later = omega arith;
   names =
-      λ e xs ts. names_none g.X.AsStr.text g.I.Iterator.next_gives g.I.Iterator.can_next g.I.Iterator.remaining
+      λ e xs ts. names_none g.X.AsStr g.I.Iterator
       c.args.self.now c.new-keywords.result (name_of c.args.first) e xs ts c.new-keywords.ensures;
 }
 
@@ -629,8 +627,7 @@ pub keywords-returns-in_err-close : goal.keywords-returns-in_err-close
 keywords-returns-in_err-close g t c = let p = err_from_is_err_and c.from_residual-in_err-close.result
     c.from_residual-in_err-close.ensures.1 in
     rw (p.1, p.2) (blame (λ o w. λ f xs ts s. let v = c.loop-name.invariant.names f xs ts in let q =
-    c.in_ok-value.ensures.reads in argument_read g.X.AsStr.text g.I.Iterator.next_gives g.I.Iterator.can_next
-    g.I.Iterator.remaining v s q o
+    c.in_ok-value.ensures.reads in argument_read g.X.AsStr g.I.Iterator v s q o
     (w (have c.in_ok-value.value.level q.part (naming f xs v.arguments (name_of c.loop-name.name) (ts ++ v.more) s))
     (needs_end g.X.AsStr.text (kind.Operator sign.RightParenthesis) c.in_ok-value.value.level q.part
     (naming f xs v.arguments (name_of c.loop-name.name) (ts ++ v.more) s) c.operators.new.self refl
@@ -643,7 +640,7 @@ pub keywords-returns-then-not-sees : goal.keywords-returns-then-not-sees
 keywords-returns-then-not-sees g t c = let k = c.in_ok-close.ensures in let q = c.in_ok-value.ensures.reads in record {
   ready = k.taken.ready;
   later = omega (arith, c.loop-name.invariant.later, q.later, k.taken.later);
-  names = λ e xs ts. argument_last g.X.AsStr.text g.I.Iterator.next_gives g.I.Iterator.can_next g.I.Iterator.remaining
+  names = λ e xs ts. argument_last g.X.AsStr g.I.Iterator
       (c.loop-name.invariant.names e xs ts) q (λ ks v. c.in_ok-push.ensures ks v) k.taken k.kind;
 }
 
@@ -651,8 +648,7 @@ pub keywords-returns-in_err-take : goal.keywords-returns-in_err-take
 keywords-returns-in_err-take g t c = let p = err_from_is_err_and c.from_residual-in_err-take.result
     c.from_residual-in_err-take.ensures.1 in
     rw (p.1, p.2) (blame (λ o w. λ f xs ts s. let v = c.loop-name.invariant.names f xs ts in let q =
-    c.in_ok-value.ensures.reads in argument_read g.X.AsStr.text g.I.Iterator.next_gives g.I.Iterator.can_next
-    g.I.Iterator.remaining v s q o
+    c.in_ok-value.ensures.reads in argument_read g.X.AsStr g.I.Iterator v s q o
     (w (at (have c.in_ok-value.value.level q.part (naming f xs v.arguments (name_of c.loop-name.name) (ts ++ v.more)
     s))) (λ _. refl))) c.in_err-take.ensures)
 
@@ -660,8 +656,8 @@ pub keywords-returns-in_err-close-2 : goal.keywords-returns-in_err-close-2
 keywords-returns-in_err-close-2 g t c = let p = err_from_is_err_and c.from_residual-in_err-close-2.result
     c.from_residual-in_err-close-2.ensures.1 in
     rw (p.1, p.2) (blame (λ o w. λ f xs ts s. let v = c.loop-name.invariant.names f xs ts in let q =
-    c.in_ok-value.ensures.reads in argument_more g.X.AsStr.text g.I.Iterator.next_gives g.I.Iterator.can_next
-    g.I.Iterator.remaining v s q c.in_ok-take.ensures (kind_seen (kind.Operator sign.Comma)
+    c.in_ok-value.ensures.reads in argument_more g.X.AsStr g.I.Iterator v s q c.in_ok-take.ensures
+    (kind_seen (kind.Operator sign.Comma)
     (sym c.sees.ensures ∙ c.if-not-sees.false) c.in_ok-take.ensures.here) o
     (w (at (keyword_due f xs (add_keyword v.arguments (name_of c.loop-name.name) q.part.tree)
     (ts ++ (v.more ++ (q.part.tokens ++ ((lexeme g.X.AsStr.text c.in_ok-take.field-0) ∷ [])))) s)) (λ _. refl)))
@@ -671,7 +667,7 @@ pub keywords-returns-then-sees : goal.keywords-returns-then-sees
 keywords-returns-then-sees g t c = let k = c.in_ok-close-2.ensures in let q = c.in_ok-value.ensures.reads in record {
   ready = k.ready;
   later = omega (arith, c.loop-name.invariant.later, q.later, c.in_ok-take.ensures.later, k.later);
-  names = λ e xs ts. arguments_end g.X.AsStr.text g.I.Iterator.next_gives g.I.Iterator.can_next g.I.Iterator.remaining
+  names = λ e xs ts. arguments_end g.X.AsStr g.I.Iterator
       (c.loop-name.invariant.names e xs ts) q (λ ks v. c.in_ok-push.ensures ks v) c.in_ok-take.ensures
       (kind_seen (kind.Operator sign.Comma) (sym c.sees.ensures ∙ c.if-not-sees.false) c.in_ok-take.ensures.here) k
       (kind_seen (kind.Operator sign.RightParenthesis) (sym c.sees-in-loop-name.ensures ∙ c.if-sees.true)
@@ -682,8 +678,8 @@ pub keywords-returns-in_err-name : goal.keywords-returns-in_err-name
 keywords-returns-in_err-name g t c = let p = err_from_is_err_and c.from_residual-in_err-name.result
     c.from_residual-in_err-name.ensures.1 in
     rw (p.1, p.2) (blame (λ o w. λ f xs ts s. let v = c.loop-name.invariant.names f xs ts in let q =
-    c.in_ok-value.ensures.reads in argument_more g.X.AsStr.text g.I.Iterator.next_gives g.I.Iterator.can_next
-    g.I.Iterator.remaining v s q c.in_ok-take.ensures (kind_seen (kind.Operator sign.Comma)
+    c.in_ok-value.ensures.reads in argument_more g.X.AsStr g.I.Iterator v s q c.in_ok-take.ensures
+    (kind_seen (kind.Operator sign.Comma)
     (sym c.sees.ensures ∙ c.if-not-sees.false) c.in_ok-take.ensures.here) o
     (w (keyword_due f xs (add_keyword v.arguments (name_of c.loop-name.name) q.part.tree)
     (ts ++ (v.more ++ (q.part.tokens ++ ((lexeme g.X.AsStr.text c.in_ok-take.field-0) ∷ [])))) s)
@@ -695,8 +691,8 @@ pub keywords-returns-in_err-expect : goal.keywords-returns-in_err-expect
 keywords-returns-in_err-expect g t c = let p = err_from_is_err_and c.from_residual-in_err-expect.result
     c.from_residual-in_err-expect.ensures.1 in
     rw (p.1, p.2) (blame (λ o w. λ f xs ts s. let v = c.loop-name.invariant.names f xs ts in let q =
-    c.in_ok-value.ensures.reads in name_read g.X.AsStr.text g.I.Iterator.next_gives g.I.Iterator.can_next
-    g.I.Iterator.remaining v s q c.in_ok-take.ensures (kind_seen (kind.Operator sign.Comma)
+    c.in_ok-value.ensures.reads in name_read g.X.AsStr g.I.Iterator v s q c.in_ok-take.ensures
+    (kind_seen (kind.Operator sign.Comma)
     (sym c.sees.ensures ∙ c.if-not-sees.false) c.in_ok-take.ensures.here) c.in_ok-name.ensures o
     (w (keyword_named f xs (add_keyword v.arguments (name_of c.loop-name.name) q.part.tree)
     (name_of c.in_ok-name.name)
@@ -720,7 +716,7 @@ keywords-loop-name-preserved-in_ok-expect g t c = let k = c.in_ok-expect.ensures
         c.in_ok-name.ensures.takes.later,
         k.taken.later,
       );
-      names = λ e xs ts. names_more g.X.AsStr.text g.I.Iterator.next_gives g.I.Iterator.can_next g.I.Iterator.remaining
+      names = λ e xs ts. names_more g.X.AsStr g.I.Iterator
           (c.loop-name.invariant.names e xs ts) q (λ ks v. c.in_ok-push.ensures ks v) c.in_ok-take.ensures
           (kind_seen (kind.Operator sign.Comma) (sym c.sees.ensures ∙ c.if-not-sees.false) c.in_ok-take.ensures.here)
           c.in_ok-name.ensures k.taken k.kind;
@@ -737,7 +733,7 @@ keywords-loop-name-preserved g t c = let k = c.in_ok-expect.ensures in let q = c
     c.in_ok-name.ensures.takes.later,
     k.taken.later,
   );
-  names = λ e xs ts. names_more g.X.AsStr.text g.I.Iterator.next_gives g.I.Iterator.can_next g.I.Iterator.remaining
+  names = λ e xs ts. names_more g.X.AsStr g.I.Iterator
       (c.loop-name.invariant.names e xs ts) q (λ ks v. c.in_ok-push.ensures ks v) c.in_ok-take.ensures
       (kind_seen (kind.Operator sign.Comma) (sym c.sees.ensures ∙ c.if-not-sees.false) c.in_ok-take.ensures.here)
       c.in_ok-name.ensures k.taken k.kind;
@@ -764,7 +760,7 @@ operators-loop-link-preserved-in-Some-2 g t c = let i = rw c.in-Some-2.is at c.i
     c.loop-link.invariant.gives in let h = c.in-Some.ensures in let q = c.in_ok-right.ensures.reads in let j =
     c.in_ok-left-2.ensures in record {
       gives = record {
-        bare_part = joined (infix_of c.in-Some-2.infix) v.part i.tokens q.part;
+        part = joined (infix_of c.in-Some-2.infix) v.part i.tokens q.part;
         keeps = j.1 v.part q.part v.keeps q.keeps _ (starts_more _ v.keeps.starts)
             (ends_more v.part.tokens (ends_more i.tokens q.keeps.ends));
         low = omega (arith, j.0, i.own, h.binds);
@@ -797,7 +793,7 @@ operators-loop-link-preserved g t c = let i = rw c.in_default-2.is at c.in_ok-in
     c.loop-link.invariant.gives in let h = c.in-Some.ensures in let n = c.in_ok-left-3.ensures in let k =
     n.goes i.token v.part v.keeps in record {
       gives = record {
-        bare_part = k.part;
+        part = k.part;
         keeps = k.keeps;
         low = omega (arith, n.level_is, i.own, h.binds);
         ready = n.ready;
@@ -830,7 +826,7 @@ postfix-returns-in_err-operand-2-clause-reads g t c = let p =
 pub postfix-loop-self-preserved-then-sees : goal.postfix-loop-self-preserved-then-sees
 postfix-loop-self-preserved-then-sees g t c = let v = c.loop-self.invariant.gives in
     record {
-      gives = goes_on g.X.AsStr.text g.I.Iterator.next_gives g.I.Iterator.can_next g.I.Iterator.remaining
+      gives = goes_on g.X.AsStr g.I.Iterator
           (λ d p s. dotted p (d ∷ []) s) (lexeme g.X.AsStr.text c.in_ok-take.field-0) v c.in_ok-take.ensures
           (λ s. (dot_turn c.loop-self.operand.level v.part s (lexeme g.X.AsStr.text c.in_ok-take.field-0) _ v.low
           (kind_seen (kind.Operator sign.Dot) (sym c.sees.ensures ∙ c.if-sees.true) c.in_ok-take.ensures.here)))
@@ -878,7 +874,7 @@ postfix-returns-in_err-close-clause-reads g t c = let p = err_from_is_err_and c.
 pub postfix-loop-self-preserved-in_ok-operand-3 : goal.postfix-loop-self-preserved-in_ok-operand-3
 postfix-loop-self-preserved-in_ok-operand-3 g t c = let v = c.loop-self.invariant.gives in
     record {
-      gives = index_on g.X.AsStr.text g.I.Iterator.next_gives g.I.Iterator.can_next g.I.Iterator.remaining v
+      gives = index_on g.X.AsStr g.I.Iterator v
           c.in_ok-take-2.ensures (kind_seen (kind.Operator sign.LeftBracket)
           (sym c.sees-else-sees.ensures ∙ c.if-sees-2.true)
           c.in_ok-take-2.ensures.here) c.in_ok-key.ensures.reads c.in_ok-close.ensures.taken c.in_ok-close.ensures.kind
@@ -889,7 +885,7 @@ postfix-loop-self-preserved-in_ok-operand-3 g t c = let v = c.loop-self.invarian
 pub postfix-loop-self-preserved-in_ok-operand-3-2 : goal.postfix-loop-self-preserved-in_ok-operand-3-2
 postfix-loop-self-preserved-in_ok-operand-3-2 g t c = let v = c.loop-self.invariant.gives in
     record {
-      gives = index_on g.X.AsStr.text g.I.Iterator.next_gives g.I.Iterator.can_next g.I.Iterator.remaining v
+      gives = index_on g.X.AsStr g.I.Iterator v
           c.in_ok-take-2.ensures (kind_seen (kind.Operator sign.LeftBracket)
           (sym c.sees-else-sees.ensures ∙ c.if-sees-2.true)
           c.in_ok-take-2.ensures.here) c.in_ok-key.ensures.reads c.in_ok-close.ensures.taken c.in_ok-close.ensures.kind
@@ -917,7 +913,7 @@ postfix-returns-in_err-operand-4-clause-reads g t c = let p =
 pub postfix-loop-self-preserved : goal.postfix-loop-self-preserved
 postfix-loop-self-preserved g t c = let v = c.loop-self.invariant.gives in
     record {
-      gives = goes_on g.X.AsStr.text g.I.Iterator.next_gives g.I.Iterator.can_next g.I.Iterator.remaining
+      gives = goes_on g.X.AsStr g.I.Iterator
           (λ d p s. item_due (in_call p.tree) no_exprs (p.tokens ++ (d ∷ [])) s)
           (lexeme g.X.AsStr.text c.in_ok-take-3.field-0) v c.in_ok-take-3.ensures
           (λ s. (call_turn c.loop-self.operand.level v.part s (lexeme g.X.AsStr.text c.in_ok-take-3.field-0) _ v.low
@@ -927,8 +923,8 @@ postfix-loop-self-preserved g t c = let v = c.loop-self.invariant.gives in
     }
 
 pub prefixed-returns-clause-reads : goal.prefixed-returns-clause-reads
-prefixed-returns-clause-reads g t c = unsigned_reads g.X.AsStr.text g.I.Iterator.next_gives g.I.Iterator.can_next
-    g.I.Iterator.remaining c.args.self.now c.postfix.new.self c.postfix.result c.args.level c.requires.level
+prefixed-returns-clause-reads g t c = unsigned_reads g.X.AsStr g.I.Iterator c.args.self.now c.postfix.new.self
+    c.postfix.result c.args.level c.requires.level
     (λ s r. behind_signs c.args.self.now c.args.self.now [] [] s c.args.level refl (λ _. refl)
     (sym c.sees.ensures ∙ c.if-sees.false) r (elim c.else-level-le2.branch [
       | prefixed-else-level-le2-via-then-level-le2+else-sees-2 w ↦
@@ -971,7 +967,7 @@ pub signed-returns-then-sees-clause-reads : goal.signed-returns-then-sees-clause
 signed-returns-then-sees-clause-reads g t c = let q = c.in_ok-operand.ensures.reads in let n =
     (c.in_ok-inner.ensures c.in_ok-signs.ensures.reads.tokens q.part c.in_ok-signs.ensures.reads.starts q.keeps).0 in
     on_result c.wrap.result _ _ _ (λ o j. record {
-      bare_part = (applied_all denial ((lexeme g.X.AsStr.text c.in_ok-first.first) ∷ c.in_ok-signs.ensures.reads.tokens)
+      part = (applied_all denial ((lexeme g.X.AsStr.text c.in_ok-first.first) ∷ c.in_ok-signs.ensures.reads.tokens)
           c.in_ok-operand.ensures.reads.part);
       keeps = j.1 (applied_all denial c.in_ok-signs.ensures.reads.tokens q.part) n _
           (starts_one (lexeme g.X.AsStr.text c.in_ok-first.first) (applied_all denial c.in_ok-signs.ensures.reads.tokens
@@ -1021,7 +1017,7 @@ pub signed-returns-clause-reads : goal.signed-returns-clause-reads
 signed-returns-clause-reads g t c = let v = c.in_ok-signs-2.ensures.reads in let q =
     c.in_ok-operand-2.ensures.reads in on_result c.wrap_all-2.result _ _ _
     (λ o j. let n = j v.tokens q.part v.starts q.keeps in record {
-      bare_part = applied_all minus v.tokens q.part;
+      part = applied_all minus v.tokens q.part;
       keeps = n.0;
       low = subst (λ z. c.args.level ≤ z) (sym n.1) (minus_high v.tokens c.args.level c.in_ok-operand-2.operand.level
           c.requires.level (omega (arith, q.low)));

@@ -41,7 +41,7 @@ decreases-keywords g l = 30 * left_in g.I.Iterator.remaining l.self.now + 27
 
 abbrev pub invariant-operators-loop-link : goal.invariant-operators-loop-link
 invariant-operators-loop-link g l = record {
-  gives : GivesOperand g.X.AsStr.text g.I.Iterator.next_gives g.I.Iterator.can_next g.I.Iterator.remaining
+  gives : GivesOperand g.X.AsStr g.I.Iterator
       (λ s. needed_level s ≡ l.level) l.level l.fn.self l.self l.left;
   undotted : NextIs (Undotted l.left.level) l.self.ahead;
 }
@@ -51,7 +51,7 @@ decreases-operators-loop-link g l = left_in g.I.Iterator.remaining l.self
 
 abbrev pub invariant-postfix-loop-self : goal.invariant-postfix-loop-self
 invariant-postfix-loop-self g l = record {
-  gives : GivesOperand g.X.AsStr.text g.I.Iterator.next_gives g.I.Iterator.can_next g.I.Iterator.remaining
+  gives : GivesOperand g.X.AsStr g.I.Iterator
       (λ s. IsPrimary l.fn.self s) 7 l.fn.self l.self l.operand;
   level_is : l.operand.level ≡ 7;
 }
@@ -64,7 +64,7 @@ invariant-items-loop-alloc g l = record {
   ready : IsReady g.I.Iterator.can_next g.I.Iterator.remaining l.self;
   later : left_in g.I.Iterator.remaining l.self ≤ left_in g.I.Iterator.remaining l.fn.self;
   lists : (h : BracketPurpose) (xs : Exprs) (ts : List Lexeme) → Closes h l.close
-      → ElementsSoFar g.X.AsStr.text g.I.Iterator.next_gives g.I.Iterator.can_next g.I.Iterator.remaining
+      → ElementsSoFar g.X.AsStr g.I.Iterator
       (KeepsItems l.fn.some xs) l.fn.self l.self l.items h xs ts;
 }
 
@@ -75,7 +75,7 @@ abbrev pub invariant-dict-loop-self : goal.invariant-dict-loop-self
 invariant-dict-loop-self g l = record {
   ready : IsReady g.I.Iterator.can_next g.I.Iterator.remaining l.self;
   later : left_in g.I.Iterator.remaining l.self < left_in g.I.Iterator.remaining l.fn.self;
-  entries : EntriesSoFar g.X.AsStr.text g.I.Iterator.next_gives g.I.Iterator.can_next g.I.Iterator.remaining l.fn.self
+  entries : EntriesSoFar g.X.AsStr g.I.Iterator l.fn.self
       l.self l.open.place.start l.entries;
 }
 
@@ -86,8 +86,8 @@ abbrev pub invariant-call-loop-self : goal.invariant-call-loop-self
 invariant-call-loop-self g l = record {
   ready : IsReady g.I.Iterator.can_next g.I.Iterator.remaining l.self;
   later : left_in g.I.Iterator.remaining l.self ≤ left_in g.I.Iterator.remaining l.fn.self;
-  arguments : (e : Expr) (ts : List Lexeme) → ElementsSoFar g.X.AsStr.text g.I.Iterator.next_gives g.I.Iterator.can_next
-      g.I.Iterator.remaining (Unit {0}) l.fn.self l.self l.items (in_call e) no_exprs ts;
+  arguments : (e : Expr) (ts : List Lexeme) → ElementsSoFar g.X.AsStr g.I.Iterator (Unit {0}) l.fn.self l.self l.items
+      (in_call e) no_exprs ts;
 }
 
 abbrev pub decreases-call-loop-self : goal.decreases-call-loop-self
@@ -97,8 +97,8 @@ abbrev pub invariant-keywords-loop-name : goal.invariant-keywords-loop-name
 invariant-keywords-loop-name g l = record {
   ready : IsReady g.I.Iterator.can_next g.I.Iterator.remaining l.self;
   later : left_in g.I.Iterator.remaining l.self ≤ left_in g.I.Iterator.remaining l.fn.self;
-  names : (e : Expr) (xs : Exprs) (ts : List Lexeme) → NamesSoFar g.X.AsStr.text g.I.Iterator.next_gives
-      g.I.Iterator.can_next g.I.Iterator.remaining l.fn.self l.self (name_of l.fn.first) l.keywords (name_of l.name) e
+  names : (e : Expr) (xs : Exprs) (ts : List Lexeme) → NamesSoFar g.X.AsStr g.I.Iterator l.fn.self l.self
+      (name_of l.fn.first) l.keywords (name_of l.name) e
       xs ts;
 }
 

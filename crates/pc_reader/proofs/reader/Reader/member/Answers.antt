@@ -24,7 +24,7 @@ returns g c = let n = c.in_ok-name.ensures in on_result c.member.result _ _ _ (�
   ready = n.takes.ready;
   later = n.takes.later;
   goes = λ d p kp. record {
-    bare_part = (bare_part (λ q. attribute q p.tree (name_of c.in_ok-name.name))
+    part = (bare_part (λ q. attribute q p.tree (name_of c.in_ok-name.name))
         (p.tokens ++ (d ∷ (lexeme g.X.AsStr.text c.in_ok-name.ensures.token) ∷ [])));
     keeps = h.1 p kp _ (starts_more _ kp.starts) (ends_more p.tokens
         (ends_more (d ∷ []) (name_ends c.in_ok-name.name (lexeme g.X.AsStr.text c.in_ok-name.ensures.token) n.name)));
