@@ -199,10 +199,36 @@ exit 1
             "pc_a/three.edit: ACCEPTED"]))
         self.assertTrue(said.endswith("\n4 edits in files, 2 tried\n1 passed, 3 failed, 0 skipped\n"), said)
 
+    def test_laws(self) -> None:
+        self.write("crates/pc_a/src/laws.rt", "pub fn upheld()\n    ensures { One }\n{}\n\npub fn two()\n    ensures { Two }\n{}\n\n"
+                   "pub fn three() {\n    one()\n}\n\nfn four() {}\n")
+        none = ": no edit names this law, and wrong_bodies/LAWS.md has no row for it\n"
+        self.fails(f"pc_a::laws::two{none}pc_a::laws::upheld{none}", "check edits", own=True)
+        edit = self.write("wrong_bodies/pc_a/three.edit", "law: laws::upheld\n" + self.OF_CRATE)
+        status, said = self.ran("check edits", own=True)
+        self.assertEqual((status, said.count(none)), (1, 1))
+        self.assertIn(f"pc_a::laws::two{none}", said)
+        for by in ("crates/pc_a/must-fail/one.edit", "pc_a::laws::upheld"):
+            self.write("wrong_bodies/LAWS.md", f"| `pc_a::laws::two` | a case of `{by}`, not of `one` |\n")
+            self.assertIn("\n2 laws, 1 of which an edit names\n", self.passes("check edits", own=True))
+        for by in ("crates/pc_a/must-fail/gone.edit", "wrong_bodies/pc_a/two.edit", "pc_a::laws::two", "a reason"):
+            self.write("wrong_bodies/LAWS.md", f"| `pc_a::laws::two` | `{by}` |\n")
+            self.fails(f"pc_a::laws::two: wrong_bodies/LAWS.md names {by}, which is no edit of its must-fail, and no law", "check edits", own=True)
+        self.write("wrong_bodies/LAWS.md", "| `pc_a::laws::two` | none |\n")
+        self.fails(f"pc_a::laws::two{none}", "check edits", own=True)
+        rows = [f"| `pc_a::laws::{law}` | `crates/pc_a/must-fail/one.edit` |\n" for law in ("two", "upheld", "three")]
+        self.write("wrong_bodies/LAWS.md", "".join(rows))
+        self.fails("pc_a::laws::upheld: wrong_bodies/LAWS.md has a row, and an edit names it\n"
+                   "pc_a::laws::three: wrong_bodies/LAWS.md has a row, and there is no such law\n", "check edits", own=True)
+        os.remove(edit)
+        self.write("wrong_bodies/LAWS.md", "".join(rows[:2]))
+        self.assertIn("\n2 laws, 0 of which an edit names\n", self.passes("check edits", own=True))
+
     def test_definitions_with_a_law(self) -> None:
         env = self.put_toolchain()
         self.write("crates/pc_a/src/laws.rt", "pub fn upheld<C: One>()\n    ensures { One }\n{\n}\n\npub fn two()\n    ensures { Two }\n{\n}\n")
         self.write("wrong_bodies/pc_a/three.edit", "law: laws::upheld\n" + self.OF_CRATE)
+        self.write("wrong_bodies/LAWS.md", "| `pc_a::laws::two` | `crates/pc_a/must-fail/one.edit` |\n")
         self.passes("check edits", own=True)
         # One that changes a definition shares no round with another edit
         rounds = list(tool("wrong_bodies", self.room / "tools").rounds_of("pc_a"))

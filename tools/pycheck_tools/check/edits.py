@@ -11,9 +11,13 @@ just those that wrong_bodies/APART.md has a row for, each refused. LOG is what `
 input for `-`. Then the edits that it says were refused must be just those of must-fail/, whatever `rt ci` made of one that could not be
 applied, compiled or read. Where LOG counts the edits, of a crate or of all, its numbers must be those of the files.
 
+Each law, a public function whose body is empty, must be named by an edit of wrong_bodies/ that makes it false, or by a row of
+wrong_bodies/LAWS.md. A row is | `CRATE::MODULE::NAME` | TEXT |, and the first name in the text's ` ` is the edit of the crate's must-fail/
+that makes the law false, or another law, of which this one is a case and that an edit of wrong_bodies/ names.
+
 Prints the faults, then the edits whose refusal says little, since the prover only met a limit or missed a name, how many edits
-of the gate have a control, and last how many edits there are and how many of those of `rt ci` were refused. The exit status is 1 if something is wrong,
-if there is no edit, or if LOG tells of none.
+of the gate have a control, how many laws there are, and last how many edits there are and how many of those of `rt ci` were refused.
+The exit status is 1 if something is wrong, if there is no edit, or if LOG tells of none.
 """
 from __future__ import annotations
 
@@ -22,9 +26,10 @@ import re
 import sys
 from collections import Counter
 from pathlib import Path
-from typing import Dict, Iterator, List, Tuple
+from typing import Dict, Iterator, List, Set, Tuple
 
 from .. import ROOT, sums, wrong_bodies as READING
+from ..rt_files import modules_of
 
 # The words of rt about one edit, about how many it tries or knows of one crate, and about all that were refused
 VERDICT = re.compile(r"^rt: must-fail (\w+)/([^:\s]+): (.*)$", re.M)
@@ -35,6 +40,9 @@ EARLIER = re.compile(r"^rt: (\w+): (\d+) of its (\d+) must-fail edits were tried
 ALL = re.compile(r"^rt: ok;.*; must-fail edits: (\d+) refused", re.M)
 STRAY = re.compile(r"^rt: (\S+: BAD EDIT: .*)$", re.M)
 Edits = List[Tuple[str, Path]]
+# The page of the laws that no edit names, and a row: the law, and what stands for an edit of it
+LAWS = READING.KEPT / "LAWS.md"
+LAW_ROW = re.compile(r"^\| `(\w+(?:::\w+)+)` \| [^`\n]*`([^`\n]+)`.* \|$", re.M)
 
 
 def edits_of_gate() -> Edits:
@@ -83,6 +91,37 @@ def faults_of_controls(edits: Edits) -> Iterator[str]:
     for name in sums.kept_controls():
         if not any(f"{crate}/{edit.stem}" == name and READING.has_control(crate, edit) for crate, edit in edits):
             yield f"{name}: wrong_bodies/CONTROLS.md has a row, and no edit with a control has this name"
+
+
+def laws_of_crates() -> Set[str]:
+    """Returns the laws of all crates, each as `CRATE::MODULE::NAME`."""
+    folders = sorted(source.parent for source in (ROOT / "crates").glob("*/src"))
+    return {"::".join([folder.name, *path.split("::"), function.name]) for folder in folders
+            for path, module in modules_of(folder.name).items() for function in module.functions.values()
+            if path and function.is_pub and function.is_law}
+
+
+def laws_named(edits: Edits) -> Set[str]:
+    """Returns the laws that these edits make false."""
+    return {f"{crate}::{law}" for crate, edit in edits for law in READING.alone(crate, [edit]).laws}
+
+
+def faults_of_laws(edits: Edits) -> Iterator[str]:
+    """Yields a line for each law that neither an edit nor the page of laws names, and for each wrong row of that page."""
+    laws, named, rows = laws_of_crates(), laws_named(edits), dict(LAW_ROW.findall(sums.read(LAWS)))
+    yield from (f"{law}: no edit names this law, and wrong_bodies/LAWS.md has no row for it" for law in sorted(laws - named - rows.keys()))
+    for law, by in rows.items():
+        must_fail = ROOT / "crates" / law.split("::")[0] / "must-fail"
+        if law not in laws or law in named:
+            yield f"{law}: wrong_bodies/LAWS.md has a row, and {'an edit names it' if law in laws else 'there is no such law'}"
+        elif by not in named and ROOT / by not in READING.edits_in(must_fail):
+            yield f"{law}: wrong_bodies/LAWS.md names {by}, which is no edit of its must-fail, and no law that an edit names"
+
+
+def told_of_laws(edits: Edits) -> str:
+    """Returns how many laws there are, and how many of them edits name."""
+    laws = laws_of_crates()
+    return f"{len(laws)} laws, {len(laws & laws_named(edits))} of which an edit names"
 
 
 def stale(edits: Edits) -> Iterator[str]:
@@ -153,7 +192,7 @@ def run(asked: argparse.Namespace) -> int:
     log = read_log(asked.log) if asked.log else ""
     faults = [*faults_of_files(gate + apart), *faults_of_page(apart), *(faults_of_log(log, gate) if asked.log else [])]
     fits = not any(READING.misfit(crate, edit) for crate, edit in apart)
-    faults += faults_of_controls(apart) if fits else []
+    faults += [*faults_of_controls(apart), *faults_of_laws(apart)] if fits else []
     for line in [*faults, *(stale(apart) if fits else [])]:
         print(line)
     told = VERDICT.findall(log)
@@ -161,7 +200,7 @@ def run(asked: argparse.Namespace) -> int:
         if said.startswith(WEAKLY):
             print(f"says little: {crate}/{name}: {said}")
     if fits:
-        print(told_of_controls(apart))
+        print(told_of_controls(apart), told_of_laws(apart), sep="\n")
     left_out = sum(not is_of_gate(edit) for _, edit in apart)
     left = f", {left_out} of which the gate leaves out" if left_out else ""
     refused = f", {sum(said.startswith(REFUSED) for _, _, said in told)} refused" if asked.log else ""
