@@ -39,7 +39,7 @@ returns-then-sees g c = on_result c.none_test.result _ _ _ (λ o h.
       goes =
           λ d p kp.
           record {
-            bare_part =
+            part =
                 (bare_part (λ q. is_not_none q p.tree) (p.tokens ++ (d ∷ (lexeme g.X.AsStr.text c.in_ok-take.field-0)
                 ∷ (lexeme g.X.AsStr.text c.in_ok-none.none) ∷ [])));
             keeps = h.1 p kp _ (starts_more _ kp.starts)
@@ -79,7 +79,7 @@ returns g c = on_result c.none_test-2.result _ _ _
       later =
           c.in_ok-none-2.ensures.taken.later;
       goes = λ d p kp. record {
-        bare_part =
+        part =
             (bare_part (λ q. is_none q p.tree) (p.tokens ++ (d ∷ (lexeme g.X.AsStr.text c.in_ok-none-2.none) ∷ [])));
         keeps =
             h.1 p kp _ (starts_more _ kp.starts)
