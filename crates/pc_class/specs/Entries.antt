@@ -109,16 +109,6 @@ abbrev pub methods_made : Module → ℕ → ℕ → Member → List Method
 methods_made m c number (field_member f) = []
 methods_made m c number (method_member f) = method_made m c number f ∷ []
 
--- the fields that entries bind
-abbrev pub entry_fields : Module → List MemberEntry → List TypedParameter
-entry_fields m [] = []
-entry_fields m (e ∷ es) = (if e.binds then field_made m e.member else []) ++ entry_fields m es
-
--- the methods that entries bind
-abbrev pub entry_methods : Module → ℕ → List MemberEntry → List Method
-entry_methods m c [] = []
-entry_methods m c (e ∷ es) = (if e.binds then methods_made m c e.number e.member else []) ++ entry_methods m c es
-
 -- ---- findings of names
 
 -- the places of the names of members that clash

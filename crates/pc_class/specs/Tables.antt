@@ -90,10 +90,6 @@ module _ {Ty : Type 0} (cs : List (ClassEntry Ty)) where
     pub listed : Contains cs class
     pub among : Contains class.methods x
 
-  -- a borrowed field is one of the table's
-  abbrev pub IsLent : Bor (RustParameter Ty) → Type 0
-  IsLent p = IsField p.now
-
   -- a borrowed field, if there is one, is one of the table's
   abbrev pub IsFieldIfAny : Option (Bor (RustParameter Ty)) → Type 0
   IsFieldIfAny None = Unit {0}

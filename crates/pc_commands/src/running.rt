@@ -10,20 +10,19 @@ use pc_front::read_module;
 use pc_run::{Trace, run};
 use pc_source::Fault;
 use std::alloc::Global;
-use std::hash::RandomState;
 
 /// Runs the module that the bytes spell and returns the trace of its plain run with that fuel and without choices.
-/// `keys` are the keys for hashing names, which no author of a text should know. Own rule of the profile.
+/// Own rule of the profile.
 ///
 /// # Errors
 ///
 /// The refusal of the bytes if they spell no module; `OutOfMemory` if an allocation failed.
-pub fn traced(alloc: Global, keys: RandomState, bytes: &[u8], fuel: u64) -> Result<Trace, Fault>
+pub fn traced(alloc: Global, bytes: &[u8], fuel: u64) -> Result<Trace, Fault>
     ensures runs { IfOk result (λ t. RunsPlainly bytes.now fuel t.events.items (end_of_rust t.end)) }
     ensures refused { IfErr result (OnRefusal (IsRefusalOf bytes.now)) }
     ensures within { IfErr result (IsWithin (length bytes.now)) }
 {
     let program = read_module(alloc, bytes)?;
-    let trace = run(alloc, keys, &program, fuel, &[])?;
+    let trace = run(alloc, &program, fuel, &[])?;
     Ok(trace)
 }

@@ -21,10 +21,9 @@ use crate::names::add_names;
 use crate::state::{BuiltinMethod, FormalParameter, Local, NamedValue};
 use indexmap::{IndexMap, IndexSet};
 use pc_source::OutOfMemory;
-use pc_tree::{FuncDef, Literal, LiteralKind, NameMap, NameSet, Param, bind_first, put};
+use pc_tree::{FuncDef, Keys, Literal, LiteralKind, NameMap, NameSet, Param, bind_first, put};
 use pc_value::{Action, Exception, Slot, Value};
 use std::alloc::Global;
-use std::hash::RandomState;
 
 /// Returns the value of a literal, or `None` for a whole number that does not fit 128 signed bits.
 /// Language Reference 2.4 "Literals".
@@ -79,7 +78,7 @@ pub fn parameters<'m>(
 /// Maps each name to the value of the first argument given by that name.
 fn first_values<'a, 'm>(
     alloc: Global,
-    keys: RandomState,
+    keys: Keys,
     named: &'a [NamedValue<'m>],
 ) -> Result<NameMap<'m, &'a Value>, OutOfMemory>
     ensures { IfOk result (λ m. (name : List ℕ)
@@ -95,7 +94,7 @@ fn first_values<'a, 'm>(
 /// Returns the set of the parameters' names.
 fn parameter_names<'m>(
     alloc: Global,
-    keys: RandomState,
+    keys: Keys,
     parameters: &[FormalParameter<'m>],
 ) -> Result<NameSet<'m>, OutOfMemory>
     ensures { IfOk result (λ s. (name : List ℕ)
@@ -123,7 +122,7 @@ fn are_among(named: &[NamedValue<'_>], names: &NameSet<'_>) -> bool
 /// Returns whether every argument given by name is for a parameter.
 fn are_parameters(
     alloc: Global,
-    keys: RandomState,
+    keys: Keys,
     named: &[NamedValue<'_>],
     parameters: &[FormalParameter<'_>],
 ) -> Result<bool, OutOfMemory>
@@ -170,7 +169,7 @@ fn take(
 /// Language Reference 6.3.4 "Calls".
 pub fn bound_arguments<'m>(
     alloc: Global,
-    keys: RandomState,
+    keys: Keys,
     parameters: &[FormalParameter<'m>],
     values: &[Value],
     named: &[NamedValue<'_>],
@@ -245,7 +244,7 @@ pub fn builtin_action(
 /// Binds the arguments to the parameters of a def; TypeError if they do not match.
 pub fn suited_arguments<'m>(
     alloc: Global,
-    keys: RandomState,
+    keys: Keys,
     def: &'m FuncDef,
     values: &[Value],
     named: &[NamedValue<'m>],

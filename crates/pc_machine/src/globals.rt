@@ -6,13 +6,12 @@ ghost use Rattle.pc_machine.specs.Machine.{global_of as global_seen, bound_of, f
 use crate::state::{self, Bound, Globals};
 use indexmap::IndexMap;
 use pc_source::OutOfMemory;
-use pc_tree::bind_first;
+use pc_tree::{Keys, bind_first};
 use std::alloc::Global;
-use std::hash::RandomState;
 
 impl<'m> Globals<'m> {
     /// Returns a table without bindings.
-    pub fn new(alloc: Global, keys: RandomState) -> Globals<'m>
+    pub fn new(alloc: Global, keys: Keys) -> Globals<'m>
         ensures { result.bindings.items ≡ [] }
     {
         Globals {

@@ -18,9 +18,9 @@ use crate::halt::{Halt, Stop};
 use crate::names::{find_local, set_local};
 use crate::state::{Bound, Class, Globals, Local, Meaning};
 use pc_source::{OutOfMemory, Place, is_reserved};
+use pc_tree::{Keys, Keys};
 use pc_value::{Action, Exception, Heap, Iteration, Outcome, Value};
 use std::alloc::Global;
-use std::hash::RandomState;
 
 /// A plain run so far. Own rule of the profile.
 #[derive(Drop)]
@@ -42,7 +42,7 @@ pub struct Machine<'m> {
     /// The open calls.
     pub depth: Depth,
     /// The keys for hashing names, which no author of a text may know.
-    pub keys: RandomState,
+    pub keys: Keys,
 }
 
 /// Returns the halt that ends the run in an exception. Own rule of the profile.
@@ -54,7 +54,7 @@ pub fn raised(exception: Exception) -> Halt
 
 impl<'m> Machine<'m> {
     /// Returns the machine before the first item, with nothing bound. Own rule of the profile.
-    pub fn begin(alloc: Global, keys: RandomState, fuel: u64, choices: &'m [u8]) -> Machine<'m>
+    pub fn begin(alloc: Global, keys: Keys, fuel: u64, choices: &'m [u8]) -> Machine<'m>
         ensures { progress_of result ≡ begin fuel choices.now }
     {
         Machine {

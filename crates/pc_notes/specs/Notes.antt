@@ -191,3 +191,7 @@ abbrev pub ExplainsFlow : {Store Ty : Type 0} → (has : Store → Ty → Type 0
     → Option (Ty × Ty) → Option (Tree × Tree) → Type 0
 ExplainsFlow has tree store None o = o ≡ None
 ExplainsFlow has tree store (Some p) o = has store p.0 × has store p.1 × (o ≡ Some (tree p.0, tree p.1))
+
+-- two borrowed types are such as a store of boxes may give
+abbrev pub IsGivenPair : Bor BoxType × Bor BoxType → Type 0
+IsGivenPair t = IsGiven t.0.now × IsGiven t.1.now

@@ -8,13 +8,13 @@ ghost use Rattle.pc_tree.specs.Code.{finding};
 ghost use Rattle.pc_tree.specs.Tree.{module_of};
 ghost use Rattle.std.specs.BTreeMap.{get};
 ghost use Rattle.pc_source.specs.declared.place.Place.{Place as PlaceOf};
-ghost use Rattle.pc_types.specs.Boxed.{tree_of};
+ghost use Rattle.pc_types.specs.Boxed.{IsGiven, tree_of};
 ghost use Rattle.pc_annotations.specs.Named.{named_module};
 ghost use Rattle.pc_types.specs.Store.{KeepsTypes};
 ghost use Rattle.pc_notes.specs.Notes.{IsGivenEntry, Note, note_of, notes_of, plain_note, flow_note, typed};
 ghost use Rattle.pc_notes.specs.Notes.{is_same_place, is_same_code, entry_place, kept_flow, flow_noted, ExplainsFlow};
 ghost use Rattle.pc_notes.specs.Notes.{findings_of, types_of, type_shown, IsGivenShown, named, names_of_notes};
-ghost use Rattle.pc_notes.specs.Notes.{name_shown, AreGivenBound, type_noted, pair_shown, flow_types};
+ghost use Rattle.pc_notes.specs.Notes.{IsGivenPair, name_shown, AreGivenBound, type_noted, pair_shown, flow_types};
 ghost use Rattle.pc_notes.specs.declared.notes.NoteEntry.{NoteEntry as Kept};
 ghost use Rattle.pc_notes.specs.Texts.{AreFlowTexts, HasFirstFlows, HasGivenFlows, place_cmp};
 
@@ -319,8 +319,9 @@ impl Notes {
         alloc: Global,
         code: Code,
     ) -> Result<BTreeMap<Place, (&BoxType, &BoxType)>, OutOfMemory>
-        ensures { IfOk result (λ types. (place : PlaceOf)
+        ensures types { IfOk result (λ types. (place : PlaceOf)
             → option_map pair_shown (get place_cmp types place) ≡ flow_noted code place (notes_of self.now)) }
+        ensures given { IfOk result (λ types. (place : PlaceOf) → IfSome (get place_cmp types place) IsGivenPair) }
     {
         let flows = self.first_flows(alloc, code)?;
         Ok(types_of_flows(alloc, &flows)?)
@@ -328,8 +329,10 @@ impl Notes {
 
     /// Returns the first type noted at each place, shown or not.
     pub fn label_types(&self, alloc: Global) -> Result<BTreeMap<Place, &BoxType>, OutOfMemory>
-        ensures { IfOk result (λ types. (place : PlaceOf)
+        ensures types { IfOk result (λ types. (place : PlaceOf)
             → option_map (λ t. tree_of t.now) (get place_cmp types place) ≡ type_noted place (notes_of self.now)) }
+        ensures given { IfOk result (λ types. (place : PlaceOf)
+            → IfSome (get place_cmp types place) (λ t. IsGiven t.now)) }
     {
         Ok(first_types(alloc, &self.entries)?)
     }

@@ -19,7 +19,6 @@ use pc_stopping::stops;
 use pc_tree::Module;
 use pc_value::{Exception, Value};
 use std::alloc::Global;
-use std::hash::RandomState;
 
 /// Returns the end of a run that was stopped.
 fn end_of_stop(stop: Stop) -> End
@@ -65,30 +64,24 @@ fn trace_of(machine: Machine<'_>, ended: Result<Value, Halt>) -> Result<Trace, O
 }
 
 /// Runs a module and returns the trace of its plain run for this fuel and these choices, each a byte from which one
-/// free answer is taken. A module with a code that prevents running leaves the profile without an event. `keys` are the
-/// keys for hashing names, which no author of a text should know. Own rule of the profile.
+/// free answer is taken. A module with a code that prevents running leaves the profile without an event. Own rule
+/// of the profile.
 ///
 /// # Errors
 ///
 /// `OutOfMemory` if an allocation failed.
-pub fn run(
-    alloc: Global,
-    keys: RandomState,
-    program: &Module,
-    fuel: u64,
-    choices: &[u8],
-) -> Result<Trace, OutOfMemory>
+pub fn run(alloc: Global, program: &Module, fuel: u64, choices: &[u8]) -> Result<Trace, OutOfMemory>
     ensures { IfOk result (λ trace.
         PlainRun (module_of program.now) fuel choices.now trace.events.items (end_of_rust trace.end)) }
 {
-    let found = stops(alloc, keys, program)?;
+    let found = stops(alloc, program.keys, program)?;
     if !found.is_empty() {
         return Ok(Trace {
             events: Vec::new(alloc),
             end: End::Outside,
         });
     }
-    let mut machine = Machine::begin(alloc, keys, fuel, choices);
+    let mut machine = Machine::begin(alloc, program.keys, fuel, choices);
     let ended = run_module(&mut machine, alloc, program);
     trace_of(machine, ended)
 }

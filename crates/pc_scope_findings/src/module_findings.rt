@@ -33,9 +33,8 @@ fn find_all(alloc: Global, scopes: &Scopes, program: &Module) -> Result<Findings
     ensures { IfOk result (λ fs. fs.items
         ≡ scope_findings (meaning_by_tables scopes.now.tables) (module_of program.now)) }
 {
-    let keys = program.keys.state()?;
     let mut found = Vec::new(alloc);
-    find_in_scopes(&mut found, alloc, keys, program)?;
+    find_in_scopes(&mut found, alloc, program.keys, program)?;
     find_unreached_in_defs(&mut found, &program.items)?;
     find_names(&mut found, scopes, program)?;
     Ok(found)

@@ -14,17 +14,16 @@ ghost use Rattle.pc_tree.specs.Code.{at_code};
 use indexmap::IndexSet;
 use pc_source::OutOfMemory;
 use pc_tree::{
-    Branch, Code, Entry, Expr, Findings, Item, ItemKind, KeywordArgument, Stmt, StmtKind, Target,
-    find_if, put,
+    Branch, Code, Entry, Expr, Findings, Item, ItemKind, Keys, KeywordArgument, Stmt, StmtKind,
+    Target, find_if, put,
 };
 use std::alloc::Global;
-use std::hash::RandomState;
 
 /// Adds E01 for each keyword given again in one call.
 fn find_given_again(
     found: &mut Findings,
     alloc: Global,
-    keys: RandomState,
+    keys: Keys,
     by_name: &[KeywordArgument],
 ) -> Result<(), OutOfMemory>
     ensures { OnOk result (found.new.items
@@ -40,12 +39,7 @@ fn find_given_again(
 
 /// Adds E01 for each keyword given again in a call of an expression, in text order.
 #[cycle(given)]
-fn find_given(
-    found: &mut Findings,
-    alloc: Global,
-    keys: RandomState,
-    e: &Expr,
-) -> Result<(), OutOfMemory>
+fn find_given(found: &mut Findings, alloc: Global, keys: Keys, e: &Expr) -> Result<(), OutOfMemory>
     ensures { OnOk result (found.new.items ≡ found.old.items ++ at_code E01 (given_in (expr_of e.now))) }
 {
     match e {
@@ -92,7 +86,7 @@ fn find_given(
 fn find_given_in_all(
     found: &mut Findings,
     alloc: Global,
-    keys: RandomState,
+    keys: Keys,
     items: &[Expr],
 ) -> Result<(), OutOfMemory>
     ensures { OnOk result (found.new.items ≡ found.old.items ++ at_code E01 (given_in_all (exprs_of_list items.now))) }
@@ -108,7 +102,7 @@ fn find_given_in_all(
 fn find_given_in_entries(
     found: &mut Findings,
     alloc: Global,
-    keys: RandomState,
+    keys: Keys,
     entries: &[Entry],
 ) -> Result<(), OutOfMemory>
     ensures { OnOk result (found.new.items
@@ -126,7 +120,7 @@ fn find_given_in_entries(
 fn find_given_in_values(
     found: &mut Findings,
     alloc: Global,
-    keys: RandomState,
+    keys: Keys,
     by_name: &[KeywordArgument],
 ) -> Result<(), OutOfMemory>
     ensures { OnOk result (found.new.items
@@ -142,7 +136,7 @@ fn find_given_in_values(
 fn find_given_in_optional(
     found: &mut Findings,
     alloc: Global,
-    keys: RandomState,
+    keys: Keys,
     e: &Option<Box<Expr>>,
 ) -> Result<(), OutOfMemory>
     ensures { OnOk result (found.new.items ≡ found.old.items
@@ -158,7 +152,7 @@ fn find_given_in_optional(
 fn find_given_in_target(
     found: &mut Findings,
     alloc: Global,
-    keys: RandomState,
+    keys: Keys,
     target: &Target,
 ) -> Result<(), OutOfMemory>
     ensures { OnOk result (found.new.items ≡ found.old.items ++ at_code E01 (given_in_target (target_of target.now))) }
@@ -178,7 +172,7 @@ fn find_given_in_target(
 pub fn find_given_in_body(
     found: &mut Findings,
     alloc: Global,
-    keys: RandomState,
+    keys: Keys,
     body: &[Stmt],
 ) -> Result<(), OutOfMemory>
     ensures { OnOk result (found.new.items ≡ found.old.items ++ at_code E01 (given_in_stmts (stmts_of_list body.now))) }
@@ -194,7 +188,7 @@ pub fn find_given_in_body(
 fn find_given_in_statement(
     found: &mut Findings,
     alloc: Global,
-    keys: RandomState,
+    keys: Keys,
     kind: &StmtKind,
 ) -> Result<(), OutOfMemory>
     ensures { (p : PlaceOf) → OnOk result
@@ -233,7 +227,7 @@ fn find_given_in_statement(
 fn find_given_in_branches(
     found: &mut Findings,
     alloc: Global,
-    keys: RandomState,
+    keys: Keys,
     branches: &[Branch],
 ) -> Result<(), OutOfMemory>
     ensures { OnOk result (found.new.items
@@ -250,7 +244,7 @@ fn find_given_in_branches(
 pub fn find_given_in_constants(
     found: &mut Findings,
     alloc: Global,
-    keys: RandomState,
+    keys: Keys,
     items: &[Item],
 ) -> Result<(), OutOfMemory>
     ensures { OnOk result (found.new.items

@@ -13,9 +13,8 @@ use crate::loops::find_loose;
 use crate::reserved::find_reserved_names;
 use crate::twice::find_parameters_again;
 use pc_source::OutOfMemory;
-use pc_tree::{Findings, FuncDef, Item, ItemKind, Member};
+use pc_tree::{Findings, FuncDef, Item, ItemKind, Keys, Member};
 use std::alloc::Global;
-use std::hash::RandomState;
 
 /// A rule on one function or method. Each has one code.
 #[derive(Clone, Copy, PartialEq, Eq, Debug)]
@@ -36,7 +35,7 @@ pub enum FunctionRule {
 fn find_by(
     found: &mut Findings,
     alloc: Global,
-    keys: RandomState,
+    keys: Keys,
     rule: FunctionRule,
     is_method: bool,
     def: &FuncDef,
@@ -63,7 +62,7 @@ fn find_by(
 fn find_in_methods(
     found: &mut Findings,
     alloc: Global,
-    keys: RandomState,
+    keys: Keys,
     rule: FunctionRule,
     members: &[Member],
 ) -> Result<(), OutOfMemory>
@@ -83,7 +82,7 @@ fn find_in_methods(
 pub fn find_in_defs(
     found: &mut Findings,
     alloc: Global,
-    keys: RandomState,
+    keys: Keys,
     rule: FunctionRule,
     items: &[Item],
 ) -> Result<(), OutOfMemory>

@@ -9,9 +9,8 @@ ghost use Rattle.pc_stopping.specs.Holdings.{HasIn, Keeps, number_of, holding_of
 use indexmap::IndexSet;
 use pc_shared_maps::SharedMaps;
 use pc_source::OutOfMemory;
-use pc_tree::{Member, NameSet};
+use pc_tree::{Keys, Member, NameSet};
 use std::alloc::Global;
-use std::hash::RandomState;
 
 /// The number of the empty table.
 pub const EMPTY: usize = 0;
@@ -70,7 +69,7 @@ fn with_member(had: Holding, member: &Member) -> Holding
 
 impl<'m> Holdings<'m> {
     /// Returns no names and the empty table.
-    pub fn new(alloc: Global, keys: RandomState) -> Result<Holdings<'m>, OutOfMemory>
+    pub fn new(alloc: Global, keys: Keys) -> Result<Holdings<'m>, OutOfMemory>
         ensures { IfOk result (λ h. HasIn h EMPTY []) }
     {
         let numbers = IndexSet::with_hasher(alloc, keys);

@@ -16,11 +16,10 @@ use crate::reserved::has_reserved_name;
 use indexmap::{IndexMap, IndexSet};
 use pc_source::{OutOfMemory, is_reserved};
 use pc_tree::{
-    Code, Findings, Item, ItemKind, Member, Module, Name, NameMap, NameSet, bind_first, find_if,
-    put,
+    Code, Findings, Item, ItemKind, Keys, Member, Module, Name, NameMap, NameSet, bind_first,
+    find_if, put,
 };
 use std::alloc::Global;
-use std::hash::RandomState;
 
 /// Returns whether a member clashes with the inherited holding of its name: a field with any, a method with a field.
 fn clashes(had: Holding, member: &Member) -> bool
@@ -111,7 +110,7 @@ fn find_member<'m>(
 fn find_in_class<'m>(
     found: &mut Findings,
     alloc: Global,
-    keys: RandomState,
+    keys: Keys,
     holdings: &mut Holdings<'m>,
     inherited: usize,
     members: &'m [Member],
@@ -151,7 +150,7 @@ fn base_table(bound: &NameMap<'_, usize>, base: &Option<Name>) -> usize
 fn find_in_item<'m>(
     found: &mut Findings,
     alloc: Global,
-    keys: RandomState,
+    keys: Keys,
     holdings: &mut Holdings<'m>,
     bound: &NameMap<'m, usize>,
     item: &'m Item,
@@ -186,7 +185,7 @@ fn find_in_item<'m>(
 pub fn find_in_classes(
     found: &mut Findings,
     alloc: Global,
-    keys: RandomState,
+    keys: Keys,
     program: &Module,
 ) -> Result<(), OutOfMemory>
     ensures { OnOk result (found.new.items ≡ found.old.items

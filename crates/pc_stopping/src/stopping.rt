@@ -14,16 +14,15 @@ use crate::members::find_in_classes;
 use crate::reserved::{find_reserved_in_classes, find_reserved_items};
 use crate::twice::find_items_again;
 use pc_source::OutOfMemory;
-use pc_tree::{Findings, Module};
+use pc_tree::{Findings, Keys, Module};
 use std::alloc::Global;
-use std::hash::RandomState;
 
 /// Adds E01 for each name that is bound or given twice.
 #[tactic(auto, using(pc_tree::proofs::Finds::at_both, pc_tree::proofs::Joints::joined))]
 fn find_twice(
     found: &mut Findings,
     alloc: Global,
-    keys: RandomState,
+    keys: Keys,
     program: &Module,
 ) -> Result<(), OutOfMemory>
     ensures { OnOk result (found.new.items ≡ found.old.items ++ at_code E01 (twice (module_of program.now))) }
@@ -40,7 +39,7 @@ fn find_twice(
 fn find_reserved(
     found: &mut Findings,
     alloc: Global,
-    keys: RandomState,
+    keys: Keys,
     program: &Module,
 ) -> Result<(), OutOfMemory>
     ensures { OnOk result (found.new.items ≡ found.old.items ++ at_code E29 (reserved_bound (module_of program.now))) }
@@ -60,7 +59,7 @@ fn find_reserved(
 pub fn find_in_scopes(
     found: &mut Findings,
     alloc: Global,
-    keys: RandomState,
+    keys: Keys,
     program: &Module,
 ) -> Result<(), OutOfMemory>
     ensures { OnOk result (found.new.items ≡ found.old.items ++ found_in_scopes (module_of program.now)) }
@@ -86,7 +85,7 @@ pub fn find_in_scopes(
 /// # Errors
 ///
 /// `OutOfMemory` if the findings, the sets of earlier names or the tables of members cannot grow.
-pub fn stops(alloc: Global, keys: RandomState, program: &Module) -> Result<Findings, OutOfMemory>
+pub fn stops(alloc: Global, keys: Keys, program: &Module) -> Result<Findings, OutOfMemory>
     ensures found { IfOk result
         (λ fs. (f : FindingOf) → Contains fs.items f ↔ IsStopping (module_of program.now) f.place f.code) }
     ensures none { IfOk result (λ fs. has_none fs.items ≡ is_runnable (module_of program.now)) }

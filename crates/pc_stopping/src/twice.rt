@@ -11,9 +11,8 @@ ghost use Rattle.pc_tree.specs.Names.{texts_in};
 use crate::names::{add_params, names_of};
 use indexmap::IndexSet;
 use pc_source::{OutOfMemory, is_reserved};
-use pc_tree::{Code, Findings, Item, Name, NameSet, Param, find_if, put};
+use pc_tree::{Code, Findings, Item, Keys, Name, NameSet, Param, find_if, put};
 use std::alloc::Global;
-use std::hash::RandomState;
 
 /// Adds E01 for a name if it is bound again and not reserved.
 fn find_again(found: &mut Findings, again: bool, name: &Name) -> Result<(), OutOfMemory>
@@ -47,7 +46,7 @@ fn find_bound_again<'m>(
 pub fn find_items_again(
     found: &mut Findings,
     alloc: Global,
-    keys: RandomState,
+    keys: Keys,
     items: &[Item],
 ) -> Result<(), OutOfMemory>
     ensures { OnOk result (found.new.items
@@ -115,7 +114,7 @@ fn find_few_again(
 pub fn find_parameters_again(
     found: &mut Findings,
     alloc: Global,
-    keys: RandomState,
+    keys: Keys,
     is_method: bool,
     params: &[Param],
 ) -> Result<(), OutOfMemory>

@@ -11,7 +11,6 @@ use crate::reading::traced_input;
 use crate::telling::after_telling;
 use pc_source::Counted;
 use std::alloc::Global;
-use std::hash::RandomState;
 use std::io::{Read, Write};
 
 /// Writes bytes and flushes the writer: bytes that were not flushed may be lost. Returns whether the writer accepted
@@ -30,7 +29,6 @@ fn is_written<W: Write + Drop>(bytes: &[u8], output: &mut Counted<W>) -> bool
 /// Runs the bytes of a reader and writes the trace.
 fn shown<R: Read + Drop, W: Write + Drop>(
     alloc: Global,
-    keys: RandomState,
     fuel: u64,
     input: &mut Counted<R>,
     output: &mut Counted<W>,
@@ -38,7 +36,7 @@ fn shown<R: Read + Drop, W: Write + Drop>(
     ensures output { IsOutput W.contents (RunsInput R.remaining fuel input.old input.new) result output.old output.new }
     ensures refused { IfErr result (WhenRefused (IsRefusedInput R.remaining input.old input.new)) }
 {
-    match traced_input(alloc, keys, fuel, input) {
+    match traced_input(alloc, fuel, input) {
         Ok(text) => {
             if is_written(text.as_bytes(), output) {
                 Ok(())
@@ -54,8 +52,8 @@ fn shown<R: Read + Drop, W: Write + Drop>(
 /// to `output`, or the line of a refusal or of a failed allocation to `errors`. `status_of` gives the exit status of
 /// the program for the result.
 ///
-/// Reading stops after 1,048,577 bytes, one more than a source text may have. `keys` are the keys for hashing names,
-/// which no author of a text should know. Own rule of the profile.
+/// Reading stops after 1,048,577 bytes, one more than a source text may have. Own rule of
+/// the profile.
 ///
 /// # Errors
 ///
@@ -66,7 +64,6 @@ fn shown<R: Read + Drop, W: Write + Drop>(
 /// the trace is.
 pub fn run_file<R: Read + Drop, W: Write + Drop, E: Write + Drop>(
     alloc: Global,
-    keys: RandomState,
     fuel: u64,
     input: &mut Counted<R>,
     output: &mut Counted<W>,
@@ -76,7 +73,7 @@ pub fn run_file<R: Read + Drop, W: Write + Drop, E: Write + Drop>(
     ensures errors { IsFaultShown E.contents result errors.old errors.new }
     ensures refused { IfErr result (WhenRefused (IsRefusedInput R.remaining input.old input.new)) }
 {
-    match shown(alloc, keys, fuel, input, output) {
+    match shown(alloc, fuel, input, output) {
         Ok(()) => Ok(()),
         Err(fault) => Err(after_telling(alloc, fault, errors)),
     }

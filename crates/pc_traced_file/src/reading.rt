@@ -13,18 +13,17 @@ use pc_report::read_at_most;
 use pc_run::trace_text;
 use pc_source::{Counted, Fault};
 use std::alloc::Global;
-use std::hash::RandomState;
 use std::io::Read;
 
 /// The greatest number of bytes read: one more than a source text may have.
 const MOST: usize = 1_048_577;
 
 /// Runs the module that the bytes spell, and returns the text of its trace.
-fn traced_text(alloc: Global, keys: RandomState, fuel: u64, bytes: &[u8]) -> Result<String, Fault>
+fn traced_text(alloc: Global, fuel: u64, bytes: &[u8]) -> Result<String, Fault>
     ensures trace { IfOk result (λ text. IsTraceText (RunsPlainly bytes.now fuel) (string_bytes text)) }
     ensures refused { IfErr result (OnRefusal (IsRefusalOf bytes.now)) }
 {
-    match traced(alloc, keys, bytes, fuel) {
+    match traced(alloc, bytes, fuel) {
         Ok(trace) => match trace_text(alloc, &trace) {
             Ok(text) => Ok(text),
             Err(_) => Err(Fault::OutOfMemory),
@@ -36,7 +35,6 @@ fn traced_text(alloc: Global, keys: RandomState, fuel: u64, bytes: &[u8]) -> Res
 /// Runs the module that the bytes of a reader spell, and returns the text of its trace.
 pub(crate) fn traced_input<R: Read + Drop>(
     alloc: Global,
-    keys: RandomState,
     fuel: u64,
     input: &mut Counted<R>,
 ) -> Result<String, RunFault>
@@ -46,7 +44,7 @@ pub(crate) fn traced_input<R: Read + Drop>(
     ensures before { IfErr result IsBeforeWriting }
 {
     match read_at_most(alloc, input, MOST) {
-        Ok(bytes) => match traced_text(alloc, keys, fuel, bytes.as_slice()) {
+        Ok(bytes) => match traced_text(alloc, fuel, bytes.as_slice()) {
             Ok(text) => Ok(text),
             Err(fault) => Err(RunFault::from(fault)),
         },

@@ -3,12 +3,9 @@
 ghost use Rattle.std.specs.Prelude.{◌≡◌};
 ghost use Rattle.pc_tree.specs.Keys.{keys_of, begun, written, finished};
 
-use pc_source::OutOfMemory;
-use std::alloc::AllocError;
+use std::fmt;
 use std::fmt::{Debug, Formatter, Write};
-use std::hash::{BuildHasher, DefaultHasher, FoldHasher, Hasher, RandomState};
-use std::random::RandomSource;
-use std::{fmt, io};
+use std::hash::{BuildHasher, DefaultHasher, FoldHasher, Hasher};
 
 /// A hasher keyed by a text. It hashes the key, then the data, then the key again, so that whoever picks names before
 /// the text is complete knows neither the first multiplication nor the last.
@@ -55,19 +52,6 @@ impl Keys {
             first: KeyedHasher { state, key },
         }
     }
-
-    /// Returns the same keys as a `RandomState`, for maps that may also be keyed at random.
-    ///
-    /// # Errors
-    ///
-    /// None in fact; a failure of the kit's call would be returned as `OutOfMemory`.
-    pub fn state(self) -> Result<RandomState, OutOfMemory> {
-        match RandomState::new(&KeyBytes(self.first.key)) {
-            Ok(keys) => Ok(keys),
-            // `KeyBytes` always gives its bytes, which no clause of the kit's call says.
-            Err(_) => Err(OutOfMemory::from(AllocError)),
-        }
-    }
 }
 
 impl BuildHasher for Keys {
@@ -83,19 +67,5 @@ impl BuildHasher for Keys {
 impl Debug for Keys {
     fn fmt<W: Write>(&self, f: &mut Formatter<W>) -> fmt::Result {
         f.write_str("Keys")
-    }
-}
-
-/// A source of bytes that repeats the eight bytes of a number.
-#[derive(Drop)]
-struct KeyBytes(u64);
-
-impl RandomSource for KeyBytes {
-    fn fill_bytes(&self, buf: &mut [u8]) -> io::Result<()> {
-        let bytes = self.0.to_le_bytes();
-        for i in 0..buf.len() {
-            buf[i] = bytes[i % 8];
-        }
-        Ok(())
     }
 }

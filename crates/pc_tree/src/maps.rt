@@ -2,12 +2,12 @@
 ghost use Rattle.std.specs.Prelude.{◌≡◌, OnOk, OnErr, List, ℕ};
 ghost use Rattle.pc_tree.specs.Names.{at_text, first_of, bound_as};
 
+use crate::Keys;
 use indexmap::IndexMap;
 use pc_source::OutOfMemory;
-use std::hash::RandomState;
 
 /// A value for each name, in the order in which the names were bound.
-pub type NameMap<'m, V> = IndexMap<&'m str, V, RandomState>;
+pub type NameMap<'m, V> = IndexMap<&'m str, V, Keys>;
 
 /// Binds `name` to `value`, unless it is bound already.
 ///

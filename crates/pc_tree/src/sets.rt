@@ -3,12 +3,12 @@ ghost use Rattle.std.specs.Prelude.{◌≡◌, ◌∷◌, IfOk, OnOk, List, ℕ}
 ghost use Rattle.pc_tree.specs.Stopping.{is_among};
 ghost use Rattle.pc_tree.specs.Names.{texts_in};
 
+use crate::Keys;
 use indexmap::IndexSet;
 use pc_source::OutOfMemory;
-use std::hash::RandomState;
 
 /// Distinct names, in the order in which they were added.
-pub type NameSet<'m> = IndexSet<&'m str, RandomState>;
+pub type NameSet<'m> = IndexSet<&'m str, Keys>;
 
 /// Adds a name and returns whether it was there already.
 ///

@@ -10,7 +10,7 @@ use crate::{BoxType, Parents};
 
 /// Returns whether two types are equal.
 #[cycle(same)]
-pub(crate) fn is_same(s: &BoxType, t: &BoxType) -> bool
+pub fn is_same(s: &BoxType, t: &BoxType) -> bool
     ensures { result ≡ same_tree (tree_of s.now) (tree_of t.now) }
 {
     match s {

@@ -13,6 +13,7 @@ mod shape;
 mod store;
 
 pub use boxed::{BoxStore, BoxType};
+pub use compare::is_same;
 pub use head::Head;
 pub use laws::{joins_are_well_formed, subtyping_is_decided};
 pub use parents::Parents;

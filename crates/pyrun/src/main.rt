@@ -6,11 +6,9 @@ pub use pc_commands::{OptionFault, RunOptions as Options, run_options as options
 use pc_source::Counted;
 use pc_traced_file::{RunFault, run_file, status_of};
 use std::fs::File;
-use std::hash::RandomState;
 use std::io;
 use std::io::{ErrorKind, Write};
 use std::process::ExitCode;
-use std::random::RandomSource;
 use std::rt::{Env, Files};
 
 /// Reads the words of the command line.
@@ -41,17 +39,10 @@ fn explain<R: Eprint + AllocGlobal>(
     };
 }
 
-/// Prints the reason that a device failed which is needed before the run, and returns the fault.
-fn unread<R: Eprint + AllocGlobal>(rt: &R, device: &str, error: io::Error) -> RunFault {
-    explain(rt, &RunFault::Read, device, Some(error));
-    RunFault::Read
-}
-
 /// Runs the content of a file and writes the trace to standard output.
 fn traced<R: Print + Eprint + Files + AllocGlobal, E: Write + Drop>(
     rt: &R,
     options: &Options,
-    keys: RandomState,
     file: R::File,
     errors: E,
 ) -> Result<(), RunFault> {
@@ -60,7 +51,6 @@ fn traced<R: Print + Eprint + Files + AllocGlobal, E: Write + Drop>(
     let mut errors = Counted::new(errors);
     let outcome = run_file(
         rt.alloc(),
-        keys,
         options.fuel,
         &mut input,
         &mut output,
@@ -84,27 +74,23 @@ fn traced<R: Print + Eprint + Files + AllocGlobal, E: Write + Drop>(
     outcome
 }
 
-/// Opens the file and runs it, with random keys from the system.
-fn opened<R: Print + Eprint + Files + RandomSource + AllocGlobal, E: Write + Drop>(
+/// Opens the file and runs it.
+fn opened<R: Print + Eprint + Files + AllocGlobal, E: Write + Drop>(
     rt: &R,
     options: &Options,
     errors: E,
 ) -> Result<(), RunFault> {
-    let file = match File::open(rt, options.file.as_str()) {
-        Ok(file) => file,
-        Err(error) => return Err(unread(rt, options.file.as_str(), error)),
-    };
-    match RandomState::new(rt) {
-        Ok(keys) => traced(rt, options, keys, file, errors),
-        Err(error) => Err(unread(rt, "random keys", error)),
+    match File::open(rt, options.file.as_str()) {
+        Ok(file) => traced(rt, options, file, errors),
+        Err(error) => {
+            explain(rt, &RunFault::Read, options.file.as_str(), Some(error));
+            Err(RunFault::Read)
+        }
     }
 }
 
 /// Runs the program on the words of its command line and returns the exit status.
-fn run<R: Print + Eprint + Env + Files + RandomSource + AllocGlobal, E: Write + Drop>(
-    rt: &R,
-    errors: E,
-) -> u8 {
+fn run<R: Print + Eprint + Env + Files + AllocGlobal, E: Write + Drop>(rt: &R, errors: E) -> u8 {
     match asked_for(rt) {
         Ok(options) => status_of(&opened(rt, &options, errors)),
         Err(fault) => tell(rt, &fault),

@@ -15,9 +15,9 @@ fn found_in(alloc: Global, part: &str, module: &Module) -> Result<Findings, OutO
     let mut found = Vec::new(alloc);
     match part {
         "FINDINGS" => return scope_findings(alloc, module, &scopes(alloc, module)?),
-        "STOPS" => return stops(alloc, module.keys.state()?, module),
-        "IN_SCOPES" => find_in_scopes(&mut found, alloc, module.keys.state()?, module)?,
-        _ => find_in_classes(&mut found, alloc, module.keys.state()?, module)?,
+        "STOPS" => return stops(alloc, module.keys, module),
+        "IN_SCOPES" => find_in_scopes(&mut found, alloc, module.keys, module)?,
+        _ => find_in_classes(&mut found, alloc, module.keys, module)?,
     }
     Ok(found)
 }

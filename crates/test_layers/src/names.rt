@@ -41,7 +41,7 @@ pub fn meaning_text(alloc: Global, module: &str, row: &str) -> Result<String, Fa
 
 /// Returns the entry of each word in a map that binds it to the number of its first occurrence.
 fn bound(alloc: Global, words: &str) -> Result<String, Fault> {
-    let mut map = IndexMap::with_hasher(alloc, Keys::of(words.as_bytes()).state()?);
+    let mut map = IndexMap::with_hasher(alloc, Keys::of(words.as_bytes()));
     for (number, word) in words.split(' ').enumerate() {
         bind_first(&mut map, word, number)?;
     }
@@ -54,7 +54,7 @@ fn bound(alloc: Global, words: &str) -> Result<String, Fault> {
 
 /// Returns whether each word was in the set of the words before it.
 fn repeated(alloc: Global, words: &str) -> Result<String, Fault> {
-    let mut set = IndexSet::with_hasher(alloc, Keys::of(words.as_bytes()).state()?);
+    let mut set = IndexSet::with_hasher(alloc, Keys::of(words.as_bytes()));
     let mut text = String::new(alloc);
     for word in words.split(' ') {
         let stands_before = put(&mut set, word)?;

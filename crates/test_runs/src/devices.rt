@@ -3,7 +3,6 @@ use crate::options::fault_text;
 use pc_commands::{OptionFault, RemembersError, reason_of};
 use pc_source::Counted;
 use pc_traced_file::{RunFault, run_file, status_of};
-use pc_tree::Keys;
 use std::alloc::{AllocError, Global};
 use std::io;
 use std::io::Write;
@@ -18,13 +17,10 @@ fn trace_summary(alloc: Global, written: &[u8]) -> Result<String, AllocError> {
 
 /// Returns the status of the run of a module with that fuel, and a summary of its trace or the line of its fault.
 fn outcome_text(alloc: Global, text: &str, fuel: u64) -> Result<String, AllocError> {
-    let Ok(keys) = Keys::of(text.as_bytes()).state() else {
-        return Err(AllocError);
-    };
     let mut input = Counted::new(text.as_bytes());
     let mut output = Counted::new(Vec::new(alloc));
     let mut errors = Counted::new(Vec::new(alloc));
-    let outcome = run_file(alloc, keys, fuel, &mut input, &mut output, &mut errors);
+    let outcome = run_file(alloc, fuel, &mut input, &mut output, &mut errors);
     let status = status_of(&outcome);
     if outcome.is_ok() {
         let summary = trace_summary(alloc, output.inner().as_slice())?;

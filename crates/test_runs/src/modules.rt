@@ -33,13 +33,7 @@ pub fn module_of_lines(alloc: Global, lines: &str) -> Result<String, AllocError>
 
 /// Returns the trace of a module that was read, run with the fuel and the choices of a case.
 fn trace_in(alloc: Global, program: &Module, case: &Case) -> Result<Trace, OutOfMemory> {
-    run(
-        alloc,
-        program.keys.state()?,
-        program,
-        case.fuel,
-        case.choices.as_slice(),
-    )
+    run(alloc, program, case.fuel, case.choices.as_slice())
 }
 
 /// Returns the trace of the module that a text spells, run with the fuel and the choices of a case.

@@ -55,10 +55,6 @@ abbrev pub notes_of_code : Place → Option Code → List Note
 notes_of_code p None = []
 notes_of_code p (Some c) = own_at p c
 
--- the codes of flows
-abbrev pub flow_codes : FlowLabels → List Code
-flow_codes flows = flat_map (λ f. option_to_list f.code) flows
-
 -- the note of a flow with this code, at the place of the expression that flows, with its two types; none for a code of
 -- scope analysis
 abbrev pub own_flow : Place → (from into : Tree) → Code → List Note
