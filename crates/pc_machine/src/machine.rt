@@ -18,7 +18,7 @@ use crate::halt::{Halt, Stop};
 use crate::names::{find_local, set_local};
 use crate::state::{Bound, Class, Globals, Local, Meaning};
 use pc_source::{OutOfMemory, Place, is_reserved};
-use pc_tree::{Keys, Keys};
+use pc_tree::Keys;
 use pc_value::{Action, Exception, Heap, Iteration, Outcome, Value};
 use std::alloc::Global;
 
