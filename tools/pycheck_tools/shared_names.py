@@ -58,7 +58,7 @@ GROUPS: Tuple[Group, ...] = (
         "IsWritten": 2, "WhenRefused": 2, "most_read": 2, "status": 3, "status_of": 3,
     }),
     Group("one definition, stated once more in a crate that could use it", {"is_range_call": 2, "is_same_code": 2}),
-    Group("one definition, stated in two crates of which neither stands on the other", {"place_cmp": 2}),
+    Group("one definition, stated in two crates of which neither stands on the other", {"anns_of_list": 2, "place_cmp": 2}),
     Group("one question, of several kinds of things", {
         "IsFault": 2, "IsLabel": 2, "IsOneMore": 2, "IsRead": 4, "IsReady": 2, "IsSpelled": 2, "Lists": 2, "Stands": 2,
         "fills": 2, "is_alike": 2, "is_among": 3, "is_before": 2, "is_blank": 2, "is_method": 2, "is_number": 2,
@@ -71,7 +71,7 @@ GROUPS: Tuple[Group, ...] = (
         "types_in": 2, "types_of": 2,
     }),
     Group("one operation, on several kinds of things", {
-        "at_text": 2, "first_named": 2, "join_or_object": 2, "put": 2, "texts_in": 2, "type_condition": 2,
+        "at_text": 2, "first_named": 3, "join_or_object": 2, "put": 2, "texts_in": 2, "type_condition": 2,
         "write_whole": 2,
     }),
     Group("of operands, as Python's grammar has it, and of types, as the typing specification has it", {"join": 2}),

@@ -1,3 +1,4 @@
+pub mod Defining
 pub mod Finding
 pub mod Keeping
 pub mod Limits

@@ -78,7 +78,7 @@ pub record AreOfModule (encoding : Encoding) (text : List ℕ) (symbols : List D
   pub spelled : IsModuleOf text tree
   pub are : symbols ≡ symbols_of encoding text tree
 
--- a text that is refused has no symbols
+-- a text that is refused has no symbols, and no definitions
 pub record AreOfRefusal (text : List ℕ) (symbols : List Data) : Type 0 where
   pub refusal : Refusal
   pub refused : IsRefusalOf text refusal

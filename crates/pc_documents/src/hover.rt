@@ -22,7 +22,7 @@ fn is_before(first: Position, other: Position) -> bool
 }
 
 /// Returns whether `position` is between `start` and `end`, both included.
-fn is_within(start: Position, position: Position, end: Position) -> bool
+pub(crate) fn is_within(start: Position, position: Position, end: Position) -> bool
     ensures { result ≡ is_within start position end }
 {
     !is_before(position, start) && !is_before(end, position)

@@ -3,6 +3,7 @@
 
 mod anchors;
 mod checker;
+mod definitions;
 mod diagnostics;
 mod documents;
 mod hover;
@@ -12,6 +13,7 @@ mod texts;
 mod told;
 
 pub use checker::{CheckOutcome, Checker, FlowTypes, ReportedFinding};
+pub use definitions::definitions_of;
 pub use diagnostics::unknown_values;
 pub use documents::{Document, document_of, forget, index_of_document, put, remove};
 pub use settings::{Settings, WARNING};

@@ -23,11 +23,12 @@ use Rattle.pc_documents.specs.Diagnostics.{range_data, diagnostic_data, item_dat
 use Rattle.pc_documents.specs.Diagnostics.{severity_of, message_text, limited, more_data, unknown_data, start_of}
 use Rattle.pc_documents.specs.Diagnostics.{end_of}
 use Rattle.pc_documents.specs.Documents.{OpenDocument}
+use Rattle.pc_documents.proofs.Defining.{definitions_as_low}
 use Rattle.pc_documents.proofs.Listing.{symbols_as_low}
 use Rattle.pc_session.specs.declared.messages.LspMethod.{LspMethod}
 use Rattle.pc_session.specs.declared.messages.LspMethod.TheVariants.{Initialize, Initialized, Shutdown, Exit, DidOpen}
 use Rattle.pc_session.specs.declared.messages.LspMethod.TheVariants.{DidChange, DidSave, DidClose, Hover, Diagnostic}
-use Rattle.pc_session.specs.declared.messages.LspMethod.TheVariants.{CodeAction, DocumentSymbol, Other}
+use Rattle.pc_session.specs.declared.messages.LspMethod.TheVariants.{CodeAction, DocumentSymbol, Definition, Other}
 use Rattle.pc_session.specs.declared.replies.ErrorCode.{ErrorCode}
 use Rattle.pc_session.specs.declared.replies.ErrorCode.TheVariants.{ParseError, InvalidRequest, MethodNotFound}
 use Rattle.pc_session.specs.declared.replies.ErrorCode.TheVariants.{InvalidParams, ServerNotInitialized, TooLong}
@@ -36,12 +37,12 @@ use Rattle.pc_session.specs.declared.session.Stage.TheVariants.{Fresh, Running, 
 use Rattle.pc_session.specs.Messages.{is_identifier, agreed_in}
 use Rattle.pc_session.specs.Publications.{IsPublished, IsSentWhere}
 use Rattle.pc_session.specs.Replies.{publish_data, result_data, full_data, hover_data, capabilities_data, refusal_of}
-use Rattle.pc_session.specs.Replies.{symbols_data}
+use Rattle.pc_session.specs.Replies.{symbols_data, definitions_data}
 use Rattle.pc_session.specs.Sent.{IsTextOf, AreSent, SendsRefusal}
 use Rattle.pc_session.specs.Sessions.{IsTurn, OnOpen, OnChange, OnClose, OnNoMethod, OnFresh, OnRunning, OnRequest}
 use Rattle.pc_session.specs.Sessions.{OnNotice, OnStage, OnNotification, OnMethod, OnMessage, IsUnreadable, Step}
 use Rattle.pc_session.specs.Sessions.{IsPulled, IsHovered, IsSymbolReply, RepliesWith, unknown_of, unknown_all, told_of}
-use Rattle.pc_session.specs.Sessions.{cleared, OnSpoiled, opened_in, changed_in, identifier_or_null}
+use Rattle.pc_session.specs.Sessions.{IsLocated, cleared, OnSpoiled, opened_in, changed_in, identifier_or_null}
 use Rattle.pc_session.specs.Spelled.{IsSpelled, AreSpelled}
 use Rattle.pc_session.specs.States.{State}
 
@@ -145,6 +146,11 @@ listed_low id symbols flat h =
     let own : depth id ≤ 6 = omega arith in
     low (result_data id (symbols_data symbols)) 7 (omega arith)
     (up _ 6 (max-le own (max-le (z 6) (max-le (up _ 5 h) (z 6)))))
+
+located_low : (id : Data) (definitions : List Data) → depth id ≡ 0 → items_depth (items_of definitions) ≤ 3
+    → depth (result_data id (definitions_data definitions)) ≤ max_depth
+located_low id definitions flat h =
+    let more : items_depth (items_of definitions) ≤ 5 = omega arith in listed_low id definitions flat more
 
 hover_low : (told : List ℕ) → depth (hover_data told) ≤ 5
 hover_low [] = z 5
@@ -269,6 +275,7 @@ module _ (finds : List ℕ → CheckOutcome → Type 0) where
   noticed Diagnostic message old new replies h = turned h tt
   noticed CodeAction message old new replies h = turned h tt
   noticed DocumentSymbol message old new replies h = turned h tt
+  noticed Definition message old new replies h = turned h tt
   noticed Other message old new replies h = turned h tt
 
   staged : (stage : Stage) (method : LspMethod) (message : Data) (old new : State) (replies : List Data)
@@ -291,6 +298,7 @@ module _ (finds : List ℕ → CheckOutcome → Type 0) where
   notified Hover stage message old new replies h = staged stage Hover message old new replies h
   notified Diagnostic stage message old new replies h = staged stage Diagnostic message old new replies h
   notified DocumentSymbol stage message old new replies h = staged stage DocumentSymbol message old new replies h
+  notified Definition stage message old new replies h = staged stage Definition message old new replies h
   notified CodeAction stage message old new replies h = staged stage CodeAction message old new replies h
   notified Other stage message old new replies h = staged stage Other message old new replies h
 
@@ -331,12 +339,26 @@ module _ (finds : List ℕ → CheckOutcome → Type 0) where
       ] in
       answered it.answered low_reply
 
+  located : (message id : Data) (old new : State) (replies : List Data) → depth id ≡ 0
+      → RepliesWith (IsLocated message id old) old replies new → AreShallow replies
+  located message id old new replies flat it =
+      let Low : Data → Type 0 = λ d. depth d ≤ max_depth in
+      let low_reply : Low it.reply = elim it.is_reply [
+        | inl of_it ↦
+            subst Low (sym of_it.replied) (located_low id of_it.definitions flat (definitions_as_low
+            old.agreed.encoding of_it.document.python of_it.document.text of_it.document.uri of_it.position
+            of_it.definitions of_it.are))
+        | inr none ↦ subst Low (sym none.1) (refusal_low InvalidParams id flat)
+      ] in
+      answered it.answered low_reply
+
   running : (method : LspMethod) (id message : Data) (old new : State) (replies : List Data) → depth id ≡ 0
       → OnRunning finds method id message old replies new → AreShallow replies
   running Shutdown id message old new replies flat h = answered h (result_low id null flat (z 5))
   running Hover id message old new replies flat h = hovered message id old new replies flat h
   running Diagnostic id message old new replies flat h = pulled message id old new replies flat h
   running DocumentSymbol id message old new replies flat h = listed message id old new replies flat h
+  running Definition id message old new replies flat h = located message id old new replies flat h
   running CodeAction id message old new replies flat h =
       answered h (result_low id (array no_items) flat (omega arith))
   running Initialize id message old new replies flat h = answered h (refusal_low InvalidRequest id flat)
@@ -363,6 +385,7 @@ module _ (finds : List ℕ → CheckOutcome → Type 0) where
   begun Hover id message old new replies flat h = answered h (refusal_low ServerNotInitialized id flat)
   begun Diagnostic id message old new replies flat h = answered h (refusal_low ServerNotInitialized id flat)
   begun DocumentSymbol id message old new replies flat h = answered h (refusal_low ServerNotInitialized id flat)
+  begun Definition id message old new replies flat h = answered h (refusal_low ServerNotInitialized id flat)
   begun CodeAction id message old new replies flat h = answered h (refusal_low ServerNotInitialized id flat)
   begun Other id message old new replies flat h = answered h (refusal_low ServerNotInitialized id flat)
 

@@ -11,13 +11,15 @@ use Rattle.pc_documents.specs.Agreed.{Agreed}
 use Rattle.pc_documents.specs.Checked.{IsChecked, IsCheckedAs, is_sent}
 use Rattle.pc_documents.specs.Documents.{document_at, is_open, without_document, OpenDocument}
 use Rattle.pc_documents.specs.Hovers.{IsToldOf, IsToldAs}
+use Rattle.pc_documents.specs.Definitions.{AreDefinitionsAs}
 use Rattle.pc_documents.specs.Symbols.{AreSymbolsAs}
+use Rattle.pc_documents.proofs.Defining.{same_definitions}
 use Rattle.pc_documents.proofs.Listing.{same_symbols}
 use Rattle.pc_documents.proofs.Saying.{same_diagnostics, same_hovers}
 use Rattle.pc_session.specs.declared.messages.LspMethod.{LspMethod}
 use Rattle.pc_session.specs.declared.messages.LspMethod.TheVariants.{Initialize, Shutdown, Exit, DidOpen, DidChange}
 use Rattle.pc_session.specs.declared.messages.LspMethod.TheVariants.{DidClose, Hover, Diagnostic, CodeAction}
-use Rattle.pc_session.specs.declared.messages.LspMethod.TheVariants.{DocumentSymbol}
+use Rattle.pc_session.specs.declared.messages.LspMethod.TheVariants.{DocumentSymbol, Definition}
 use Rattle.pc_session.specs.declared.replies.ErrorCode.TheVariants.{ParseError, InvalidRequest, MethodNotFound}
 use Rattle.pc_session.specs.declared.replies.ErrorCode.TheVariants.{ServerNotInitialized, TooLong}
 use Rattle.pc_session.specs.declared.session.Stage.{Stage}
@@ -26,9 +28,10 @@ use Rattle.pc_session.specs.Exchanges.{IsDetermined, Arrival, Exchange, Exchange
 use Rattle.pc_session.specs.Messages.{agreed_in, uri_in, version_in, is_older}
 use Rattle.pc_session.specs.Publications.{IsSentWhere}
 use Rattle.pc_session.specs.Replies.{publish_data, log_data, result_data, full_data, hover_data, capabilities_data}
-use Rattle.pc_session.specs.Replies.{refusal_of, symbols_data}
+use Rattle.pc_session.specs.Replies.{refusal_of, symbols_data, definitions_data}
 use Rattle.pc_session.specs.Sessions.{IsTurn, IsKept, IsOpened, IsChanged, IsOutdated, IsNotOpen, IsUnnamed, IsClosed}
 use Rattle.pc_session.specs.Sessions.{IsPulled, IsHovered, IsSymbolReply, RepliesWith, OnOpen, OnChange, OnClose, OnNoMethod}
+use Rattle.pc_session.specs.Sessions.{IsLocated}
 use Rattle.pc_session.specs.Sessions.{OnFresh, OnRunning, OnRequest, OnNotice, OnStage, OnNotification, OnMethod, OnMessage}
 use Rattle.pc_session.specs.Sessions.{OnSpoiled, Step, named_document, opened_in, changed_in, at_stage, with_documents}
 use Rattle.pc_session.specs.Sessions.{cleared, exit_status, forgot, unknown_all, told_of, identifier_or_null}
@@ -219,12 +222,34 @@ module _ (finds : List ℕ → CheckOutcome → Type 0) (same : IsDetermined fin
   one_listed message id old a b (inr x) (inl y) = absurd (some_none (sym y.named ∙ x.0))
   one_listed message id old a b (inr x) (inr y) = x.1 ∙ sym y.1
 
+  one_located : (message id : Data) (old : State) (a b : Data) → IsLocated message id old a → IsLocated message id old b
+      → a ≡ b
+  one_located message id old a b (inl x) (inl y) =
+      let Has : OpenDocument → Position → Type 0 =
+      λ d p. AreDefinitionsAs old.agreed.encoding d.python d.text d.uri p x.definitions in
+      let placed : Has x.document y.position = subst (Has x.document) (some_inj (sym x.placed ∙ y.placed)) x.are in
+      let has : Has y.document y.position =
+      subst (λ d. Has d y.position) (some_inj (sym x.named ∙ y.named)) placed in
+      x.replied ∙ (ap (λ ds. result_data id (definitions_data ds)) (same_definitions old.agreed.encoding
+      y.document.python y.document.text y.document.uri y.position x.definitions y.definitions has y.are)
+      ∙ sym y.replied)
+  one_located message id old a b (inl x) (inr y) = elim y.0 [
+    | inl none ↦ absurd (some_none (sym x.named ∙ none))
+    | inr none ↦ absurd (some_none (sym x.placed ∙ none))
+  ]
+  one_located message id old a b (inr x) (inl y) = elim x.0 [
+    | inl none ↦ absurd (some_none (sym y.named ∙ none))
+    | inr none ↦ absurd (some_none (sym y.placed ∙ none))
+  ]
+  one_located message id old a b (inr x) (inr y) = x.1 ∙ sym y.1
+
   once_running : (method : LspMethod) (id message : Data) (old : State) → Once (OnRunning finds method id message old)
   once_running Shutdown id message old = once_turn (result_data id null ∷ []) (at_stage ShutDown old)
   once_running Hover id message old =
       once_with (IsHovered finds message id old) old (one_hovered message id old)
   once_running Diagnostic id message old = once_with (IsPulled finds message id old) old (one_pulled message id old)
   once_running DocumentSymbol id message old = once_with (IsSymbolReply message id old) old (one_listed message id old)
+  once_running Definition id message old = once_with (IsLocated message id old) old (one_located message id old)
   once_running CodeAction id message old = once_turn (result_data id (array no_items) ∷ []) old
   once_running Initialize id message old = once_turn (refusal_of InvalidRequest id ∷ []) old
   once_running _ id message old = once_turn (refusal_of MethodNotFound id ∷ []) old

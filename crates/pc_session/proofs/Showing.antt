@@ -17,7 +17,7 @@ use Rattle.pc_session.specs.declared.session.Stage.TheVariants.{Fresh, Running, 
 use Rattle.pc_session.specs.Publications.{IsSentWhere}
 use Rattle.pc_session.specs.Replies.{publish_data, refusal_of}
 use Rattle.pc_session.specs.Sessions.{IsTurn, IsKept, IsUnreadable, IsClosed, at_stage, with_documents, forgot}
-use Rattle.pc_session.specs.Sessions.{unknown_all, told_of, IsPulled, IsHovered, IsSymbolReply}
+use Rattle.pc_session.specs.Sessions.{unknown_all, told_of, IsPulled, IsHovered, IsSymbolReply, IsLocated}
 use Rattle.pc_session.specs.Shown.{published_after, last_publication, lost_data, IsCleared, IsShown, IsShownWhereSent}
 use Rattle.pc_session.specs.Shown.{IsInStep}
 use Rattle.pc_session.specs.Spoiled.{spoiled_at}
@@ -63,6 +63,11 @@ pub list_passes : (message id : Data) (old : State) (reply : Data) → IsSymbolR
     → Passes uri (reply ∷ [])
 list_passes message id old reply (inl it) uri = subst (λ r. Passes uri (r ∷ [])) (sym it.replied) (λ last. refl)
 list_passes message id old reply (inr it) uri = subst (λ r. Passes uri (r ∷ [])) (sym it.1) (λ last. refl)
+
+pub locate_passes : (message id : Data) (old : State) (reply : Data) → IsLocated message id old reply
+    → (uri : List ℕ) → Passes uri (reply ∷ [])
+locate_passes message id old reply (inl it) uri = subst (λ r. Passes uri (r ∷ [])) (sym it.replied) (λ last. refl)
+locate_passes message id old reply (inr it) uri = subst (λ r. Passes uri (r ∷ [])) (sym it.1) (λ last. refl)
 
 module _ (finds : List ℕ → CheckOutcome → Type 0) where
   pub shown_more : (agreed : Agreed) (sent replies : List Data) (document : OpenDocument) → Passes document.uri replies

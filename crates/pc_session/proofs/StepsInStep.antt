@@ -8,7 +8,7 @@ use Rattle.pc_documents.specs.Documents.{OpenDocument}
 use Rattle.pc_session.specs.declared.messages.LspMethod.{LspMethod}
 use Rattle.pc_session.specs.declared.messages.LspMethod.TheVariants.{Initialize, Shutdown, Exit, DidOpen, DidChange}
 use Rattle.pc_session.specs.declared.messages.LspMethod.TheVariants.{DidClose, Hover, Diagnostic, CodeAction}
-use Rattle.pc_session.specs.declared.messages.LspMethod.TheVariants.{DocumentSymbol}
+use Rattle.pc_session.specs.declared.messages.LspMethod.TheVariants.{DocumentSymbol, Definition}
 use Rattle.pc_session.specs.declared.replies.ErrorCode.TheVariants.{ParseError, InvalidRequest, MethodNotFound}
 use Rattle.pc_session.specs.declared.replies.ErrorCode.TheVariants.{ServerNotInitialized}
 use Rattle.pc_session.specs.declared.session.Stage.{Stage}
@@ -22,6 +22,7 @@ use Rattle.pc_session.specs.Spoiled.{Spoils}
 use Rattle.pc_session.specs.States.{State}
 use Rattle.pc_session.proofs.Showing.{shut_fresh, ended_fresh, spoiled_running, Holds, quiet, turned, let_be, answered}
 use Rattle.pc_session.proofs.Showing.{refused, kept, closed, unreadable, begins, pull_passes, hover_passes, list_passes}
+use Rattle.pc_session.proofs.Showing.{locate_passes}
 
 module _ (finds : List ℕ → CheckOutcome → Type 0) where
   -- ---- what each message comes to
@@ -48,6 +49,8 @@ module _ (finds : List ℕ → CheckOutcome → Type 0) where
       answered finds sent replies it.reply old new (pull_passes finds message id old it.reply it.is_reply) it.answered h
   running_request DocumentSymbol id message sent replies old new stage it h =
       answered finds sent replies it.reply old new (list_passes message id old it.reply it.is_reply) it.answered h
+  running_request Definition id message sent replies old new stage it h =
+      answered finds sent replies it.reply old new (locate_passes message id old it.reply it.is_reply) it.answered h
   running_request CodeAction id message sent replies old new stage it h =
       answered finds sent replies (result_data id (array no_items)) old new (λ uri last. refl) it h
   running_request Initialize id message sent replies old new stage it h =

@@ -9,7 +9,7 @@ use Rattle.pc_documents.specs.Agreed.{Agreed}
 use Rattle.pc_session.specs.declared.messages.LspMethod.{LspMethod}
 use Rattle.pc_session.specs.declared.messages.LspMethod.TheVariants.{Initialize, Initialized, Shutdown, Exit, DidOpen}
 use Rattle.pc_session.specs.declared.messages.LspMethod.TheVariants.{DidChange, DidSave, DidClose, Hover, Diagnostic}
-use Rattle.pc_session.specs.declared.messages.LspMethod.TheVariants.{CodeAction, DocumentSymbol, Other}
+use Rattle.pc_session.specs.declared.messages.LspMethod.TheVariants.{CodeAction, DocumentSymbol, Definition, Other}
 
 -- the method of this name
 abbrev pub method_named : List ℕ → LspMethod
@@ -25,7 +25,8 @@ method_named name =
     if bytes_eq name (codes "textDocument/hover") then Hover else (
     if bytes_eq name (codes "textDocument/diagnostic") then Diagnostic else (
     if bytes_eq name (codes "textDocument/codeAction") then CodeAction else (
-    if bytes_eq name (codes "textDocument/documentSymbol") then DocumentSymbol else Other)))))))))))
+    if bytes_eq name (codes "textDocument/documentSymbol") then DocumentSymbol else (
+    if bytes_eq name (codes "textDocument/definition") then Definition else Other))))))))))))
 
 -- the method that a message names
 abbrev pub method_in : Data → Option LspMethod

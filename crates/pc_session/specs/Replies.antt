@@ -61,18 +61,23 @@ full_data diagnostics =
 abbrev pub symbols_data : List Data → Data
 symbols_data symbols = array (items_of symbols)
 
+-- the result of a request for definitions
+abbrev pub definitions_data : List Data → Data
+definitions_data definitions = array (items_of definitions)
+
 -- the name of an encoding
 abbrev pub encoding_name : Encoding → List ℕ
 encoding_name Utf8 = codes "utf-8"
 encoding_name Utf16 = codes "utf-16"
 encoding_name Utf32 = codes "utf-32"
 
--- the capabilities of the server: it takes whole texts, counts characters in this encoding, and answers hover, symbols
--- and pulls
+-- the capabilities of the server: it takes whole texts, counts characters in this encoding, and answers hover,
+-- definitions, symbols and pulls
 abbrev pub capabilities_data : Encoding → Data
 capabilities_data encoding =
     object (member (codes "capabilities")
-    (object (member (codes "diagnosticProvider")
+    (object (member (codes "definitionProvider") (boolean true)
+    (member (codes "diagnosticProvider")
     (object (member (codes "interFileDependencies") (boolean false)
     (member (codes "workspaceDiagnostics") (boolean false) no_members)))
     (member (codes "documentSymbolProvider") (boolean true)
@@ -80,7 +85,7 @@ capabilities_data encoding =
     (member (codes "positionEncoding") (string (encoding_name encoding))
     (member (codes "textDocumentSync")
     (object (member (codes "change") (number (unsigned 1)) (member (codes "openClose") (boolean true) no_members)))
-    no_members))))))
+    no_members)))))))
     (member (codes "serverInfo")
     (object (member (codes "name") (string (codes "pycheck"))
     (member (codes "version") (string (codes "1.0.0")) no_members)))

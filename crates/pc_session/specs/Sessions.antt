@@ -12,10 +12,11 @@ use Rattle.pc_documents.specs.Diagnostics.{unknown_data}
 use Rattle.pc_documents.specs.Documents.{document_at, is_open, with_document, without_document, forgotten, OpenDocument}
 use Rattle.pc_documents.specs.Hovers.{IsToldAs}
 use Rattle.pc_documents.specs.Symbols.{AreSymbolsAs}
+use Rattle.pc_documents.specs.Definitions.{AreDefinitionsAs}
 use Rattle.pc_session.specs.declared.messages.LspMethod.{LspMethod}
 use Rattle.pc_session.specs.declared.messages.LspMethod.TheVariants.{Initialize, Shutdown, Exit, DidOpen, DidChange}
 use Rattle.pc_session.specs.declared.messages.LspMethod.TheVariants.{DidClose, Hover, Diagnostic, CodeAction}
-use Rattle.pc_session.specs.declared.messages.LspMethod.TheVariants.{DocumentSymbol}
+use Rattle.pc_session.specs.declared.messages.LspMethod.TheVariants.{DocumentSymbol, Definition}
 use Rattle.pc_session.specs.declared.replies.ErrorCode.{ErrorCode}
 use Rattle.pc_session.specs.declared.replies.ErrorCode.TheVariants.{ParseError, InvalidRequest, MethodNotFound}
 use Rattle.pc_session.specs.declared.replies.ErrorCode.TheVariants.{InvalidParams, ServerNotInitialized}
@@ -25,7 +26,7 @@ use Rattle.pc_session.specs.Messages.{method_in, is_identifier, is_reply, uri_in
 use Rattle.pc_session.specs.Messages.{position_in, agreed_in, is_older, is_python}
 use Rattle.pc_session.specs.Publications.{IsPublished}
 use Rattle.pc_session.specs.Replies.{publish_data, log_data, result_data, full_data, hover_data, capabilities_data}
-use Rattle.pc_session.specs.Replies.{refusal_of, symbols_data}
+use Rattle.pc_session.specs.Replies.{refusal_of, symbols_data, definitions_data}
 use Rattle.pc_session.specs.Spoiled.{Spoils}
 use Rattle.pc_session.specs.States.{State}
 
@@ -173,6 +174,24 @@ abbrev pub IsSymbolReply : Data → Data → State → Data → Type 0
 IsSymbolReply message id old reply = IsListedOf message id old reply
     ⊎ ((named_document message old ≡ None) × (reply ≡ refusal_of InvalidParams id))
 
+-- the reply to a request for definitions has those of the names at the position of the open document that the message
+-- names
+pub record IsLocatedOf (message id : Data) (old : State) (reply : Data) : Type 0 where
+  pub document : OpenDocument
+  pub named : named_document message old ≡ Some document
+  pub position : Position
+  pub placed : position_in message ≡ Some position
+  pub definitions : List Data
+  pub are : AreDefinitionsAs old.agreed.encoding document.python document.text document.uri position definitions
+  pub replied : reply ≡ result_data id (definitions_data definitions)
+
+-- the reply to a request for definitions: those of the names at the position, or an error where the message names no
+-- open document or no position
+abbrev pub IsLocated : Data → Data → State → Data → Type 0
+IsLocated message id old reply = IsLocatedOf message id old reply
+    ⊎ (((named_document message old ≡ None) ⊎ (position_in message ≡ None))
+    × (reply ≡ refusal_of InvalidParams id))
+
 module _ (finds : List ℕ → CheckOutcome → Type 0) where
   -- this is the document of its address from now on, and its diagnostics are published: nothing else changes
   pub record IsKept (document : OpenDocument) (old : State) (replies : List Data) (new : State) : Type 0 where
@@ -240,6 +259,7 @@ module _ (finds : List ℕ → CheckOutcome → Type 0) where
   OnRunning Hover id message old replies new = RepliesWith (IsHovered message id old) old replies new
   OnRunning Diagnostic id message old replies new = RepliesWith (IsPulled message id old) old replies new
   OnRunning DocumentSymbol id message old replies new = RepliesWith (IsSymbolReply message id old) old replies new
+  OnRunning Definition id message old replies new = RepliesWith (IsLocated message id old) old replies new
   OnRunning CodeAction id message old replies new = RepliesAlone (result_data id (array no_items)) old replies new
   OnRunning Initialize id message old replies new = RepliesAlone (refusal_of InvalidRequest id) old replies new
   OnRunning method id message old replies new = RepliesAlone (refusal_of MethodNotFound id) old replies new

@@ -24,6 +24,7 @@ pub(crate) enum LspMethod {
     Diagnostic,
     CodeAction,
     DocumentSymbol,
+    Definition,
     Other,
 }
 
@@ -44,6 +45,7 @@ fn method_named(name: &str) -> LspMethod
         "textDocument/diagnostic" => LspMethod::Diagnostic,
         "textDocument/codeAction" => LspMethod::CodeAction,
         "textDocument/documentSymbol" => LspMethod::DocumentSymbol,
+        "textDocument/definition" => LspMethod::Definition,
         _ => LspMethod::Other,
     }
 }

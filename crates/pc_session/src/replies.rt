@@ -135,6 +135,7 @@ pub(crate) fn capabilities(alloc: Global, encoding: Encoding) -> Result<Value, A
     let encoding = name_of(encoding);
     json!(in alloc; {
         "capabilities": {
+            "definitionProvider": true,
             "diagnosticProvider": {"interFileDependencies": false, "workspaceDiagnostics": false},
             "documentSymbolProvider": true,
             "hoverProvider": true,

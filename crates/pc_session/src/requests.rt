@@ -5,8 +5,8 @@ ghost use Rattle.serde_json.specs.View.{view};
 ghost use Rattle.pc_documents.specs.Documents.{opened_of};
 ghost use Rattle.pc_session.specs.Answers.{after};
 ghost use Rattle.pc_session.specs.Replies.{refusal_of};
-ghost use Rattle.pc_session.specs.Sessions.{RepliesAlone, IsPulled, IsHovered, IsSymbolReply, OnRunning, OnFresh, OnRequest};
-ghost use Rattle.pc_session.specs.Sessions.{named_document};
+ghost use Rattle.pc_session.specs.Sessions.{RepliesAlone, IsPulled, IsHovered, IsSymbolReply, IsLocated, OnRunning};
+ghost use Rattle.pc_session.specs.Sessions.{OnFresh, OnRequest, named_document};
 ghost use Rattle.pc_session.specs.States.{state_of};
 
 use crate::messages::{LspMethod, position_in, uri_in};
@@ -16,7 +16,9 @@ use crate::replies::{
 };
 use crate::session::{Answer, Session, SessionChange, Stage};
 use crate::settings::settings_in;
-use pc_documents::{Checker, Document, checked_as, document_of, said_as, symbols_of};
+use pc_documents::{
+    Checker, Document, checked_as, definitions_of, document_of, said_as, symbols_of,
+};
 use pc_source::OutOfMemory;
 use serde_json::Value;
 use std::alloc::Global;
@@ -109,6 +111,29 @@ fn listed(
     Ok(reply)
 }
 
+/// Returns the reply to a `textDocument/definition` request.
+fn located(
+    session: &Session,
+    alloc: Global,
+    id: &Value,
+    message: &Value,
+) -> Result<Value, OutOfMemory>
+    ensures { IfOk result (λ v. IsLocated (view message.now) (view id.now) (state_of session.now) (view v)) }
+{
+    let Some(document) = named(session, message) else {
+        let refused = error_reply(alloc, id, ErrorCode::InvalidParams)?;
+        return Ok(refused);
+    };
+    let Some(position) = position_in(message) else {
+        let refused = error_reply(alloc, id, ErrorCode::InvalidParams)?;
+        return Ok(refused);
+    };
+    let definitions = definitions_of(alloc, &session.settings, document, position)?;
+    let result = Value::Array(definitions);
+    let reply = result_reply(alloc, id, result)?;
+    Ok(reply)
+}
+
 /// Answers a request in a running session.
 fn requested<C: Checker>(
     session: &Session,
@@ -139,6 +164,11 @@ fn requested<C: Checker>(
         }
         LspMethod::DocumentSymbol => {
             let reply = listed(session, alloc, id, message)?;
+            let answer = one(alloc, reply, SessionChange::Nothing)?;
+            Ok(answer)
+        }
+        LspMethod::Definition => {
+            let reply = located(session, alloc, id, message)?;
             let answer = one(alloc, reply, SessionChange::Nothing)?;
             Ok(answer)
         }
