@@ -45,6 +45,14 @@ const SYMBOLS: &str = "\
 \"range\":{\"end\":{\"character\":8,\"line\":2},\"start\":{\"character\":0,\"line\":2}},\
 \"selectionRange\":{\"end\":{\"character\":8,\"line\":2},\"start\":{\"character\":4,\"line\":2}}}]}";
 
+const ASK_DEFINITION: &str = "\
+{\"id\":2,\"method\":\"textDocument/definition\",\"params\":{\"textDocument\":{\"uri\":\"a\"},\
+\"position\":{\"line\":3,\"character\":10}}}";
+
+const DEFINITION: &str = "\
+{\"id\":2,\"jsonrpc\":\"2.0\",\"result\":[\
+{\"range\":{\"end\":{\"character\":1,\"line\":1},\"start\":{\"character\":0,\"line\":1}},\"uri\":\"a\"}]}";
+
 const TOO_LONG: &str =
     "{\"error\":{\"code\":-32600,\"message\":\"the message is longer than 16,777,216 bytes\"},\"id\":null,\"jsonrpc\":\"2.0\"}";
 
@@ -81,6 +89,17 @@ fn symbols_are_those_of_the_module(rt: HostRuntime) -> Result<(), Fail> {
     step(&mut session, &Refusing, alloc, OPEN_MODULE.as_bytes())?;
     let told = step(&mut session, &Refusing, alloc, ASK_SYMBOLS.as_bytes())?;
     assert!(rt; told == framed(alloc, SYMBOLS.as_bytes())?);
+    Ok(())
+}
+
+#[test]
+fn a_definition_is_the_place_of_a_binding(rt: HostRuntime) -> Result<(), Fail> {
+    let alloc = rt.alloc();
+    let mut session = Session::new(alloc);
+    step(&mut session, &Refusing, alloc, BEGIN.as_bytes())?;
+    step(&mut session, &Refusing, alloc, OPEN_MODULE.as_bytes())?;
+    let told = step(&mut session, &Refusing, alloc, ASK_DEFINITION.as_bytes())?;
+    assert!(rt; told == framed(alloc, DEFINITION.as_bytes())?);
     Ok(())
 }
 
