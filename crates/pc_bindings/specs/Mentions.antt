@@ -1,16 +1,15 @@
 -- The names that stand in a module, each with its scope, in text order.
 -- Language Reference 3.12, 4.2 "Naming and binding".
-use Rattle.std.specs.Prelude.{ℕ, Bool, true, false, List, [], ◌∷◌, ◌++◌, Option, None, Some, codes, bytes_eq}
-use Rattle.std.specs.Prelude.{if◌then◌else◌}
+use Rattle.std.specs.Prelude.{Bool, false, List, [], ◌∷◌, ◌++◌, Option, None, Some, codes, bytes_eq, if◌then◌else◌}
 use Rattle.pc_tree.specs.Tree.{Name, Expr, name, number, text, truth, nothing, tuple, list, dict, negative, negation}
 use Rattle.pc_tree.specs.Tree.{binary, compare, is_none, is_not_none, conjunction, disjunction, attribute, index, call}
 use Rattle.pc_tree.specs.Tree.{Exprs, no_exprs, more_exprs, Entries, no_entries, more_entries, Keywords, no_keywords}
 use Rattle.pc_tree.specs.Tree.{more_keywords, Ann, named, none_type, applied, applied_empty, union, Anns, no_anns}
 use Rattle.pc_tree.specs.Tree.{more_anns, Target, to_name, to_attribute, to_index, Stmt, pass, breaks, continues}
 use Rattle.pc_tree.specs.Tree.{returns, asserts, annotated, assigns, evaluates, while_loop, for_loop, conditional}
-use Rattle.pc_tree.specs.Tree.{Stmts, no_stmts}
-use Rattle.pc_tree.specs.Tree.{more_stmts, Branches, no_branches, more_branches, Param, FuncDef, Member, field_member}
-use Rattle.pc_tree.specs.Tree.{method_member, ClassDef, Item, constant_item, class_item, def_item, Module}
+use Rattle.pc_tree.specs.Tree.{Stmts, no_stmts, more_stmts, Branches, no_branches, more_branches, Param, FuncDef}
+use Rattle.pc_tree.specs.Tree.{Member, field_member, method_member, ClassDef, Item, constant_item, class_item}
+use Rattle.pc_tree.specs.Tree.{def_item, Module}
 
 -- where a name stands: in the module, in a function of it, in a method of a class, or as a member of a class
 pub data Scope : Type 0 where
