@@ -1,5 +1,6 @@
 -- Positions as editors count them: line and character from 0. Language Server Protocol 3.17, "Position".
-use Rattle.std.specs.Prelude.{◌≡◌, ℕ, ◌+◌, List, take, sum_by, count_by, nat_lt, nat_le, if◌then◌else◌, ◌==◌, ◌||◌}
+use Rattle.std.specs.Prelude.{◌≡◌, ℕ, ◌+◌, ◌<◌, ◌≤◌, List, take, length, sum_by, count_by, nat_lt, nat_le, if◌then◌else◌}
+use Rattle.std.specs.Prelude.{◌==◌, ◌||◌, Option, None, Some}
 use Rattle.std.specs.List.{after_last}
 use Rattle.pc_position.specs.declared.positions.Encoding.{Encoding}
 use Rattle.pc_position.specs.declared.positions.Encoding.TheVariants.{Utf8, Utf16, Utf32}
@@ -32,3 +33,14 @@ character_at encoding text byte = sum_by (units encoding) (after_last (λ b. b =
 pub record IsPositionOf (encoding : Encoding) (text : List ℕ) (byte : ℕ) (position : Position) : Type 0 where
   pub line : position.line ≡ line_at text byte
   pub character : position.character ≡ character_at encoding text byte
+
+-- a byte of the text, or its end, has the position, and no byte before it has
+pub record IsFirstByte (encoding : Encoding) (text : List ℕ) (position : Position) (byte : ℕ) : Type 0 where
+  pub within : byte ≤ length text
+  pub has : IsPositionOf encoding text byte position
+  pub first : (before : ℕ) → before < byte → ¬ (IsPositionOf encoding text before position)
+
+-- the first byte at a position; none if neither a byte of the text nor its end has it
+abbrev pub IsByteAt : Encoding → List ℕ → Position → Option ℕ → Type 0
+IsByteAt encoding text position (Some byte) = IsFirstByte encoding text position byte
+IsByteAt encoding text position None = (byte : ℕ) → byte ≤ length text → ¬ (IsPositionOf encoding text byte position)

@@ -1,7 +1,7 @@
 //! Positions of bytes.
 
 ghost use Rattle.std.specs.Prelude.{◌≡◌, ◌≤◌, length};
-ghost use Rattle.pc_position.specs.Positions.{IsPositionOf, units, line_at, character_at};
+ghost use Rattle.pc_position.specs.Positions.{IsByteAt, IsPositionOf, units, line_at, character_at};
 
 use pc_source::Source;
 
@@ -85,6 +85,26 @@ pub fn mark_after(text: &[u8], encoding: Encoding, known: Mark, byte: usize) -> 
     Mark {
         byte,
         position: Position { line, character },
+    }
+}
+
+/// Returns the first byte of a text at a position, or the length of the text if its end is the first there; `None` if
+/// neither a byte nor the end is there. Language Server Protocol 3.17, "Position".
+pub fn byte_at(text: &[u8], encoding: Encoding, position: Position) -> Option<usize>
+    ensures { IsByteAt encoding text.now position result }
+{
+    let mut known = Mark::start();
+    for byte in 0..text.len() {
+        known = mark_after(text, encoding, known, byte);
+        if known.position == position {
+            return Some(byte);
+        }
+    }
+    let end = mark_after(text, encoding, known, text.len());
+    if end.position == position {
+        Some(text.len())
+    } else {
+        None
     }
 }
 
