@@ -74,14 +74,14 @@ module _ (agreed : Agreed) (text : List ℕ) where
 
   of_found : (diagnostics : List Data) (found : CheckOutcome) → IsFoundIn text found
       → diagnostics ≡ found_data agreed text found → AreOfText agreed text diagnostics
-  of_found diagnostics (Items items) finds are =
+  of_found diagnostics (Items items) answers are =
       inl (record {
-        rows = finds.0;
-        headline = finds.1;
-        are = are ∙ ap limited (same_data items.items finds.0 finds.2);
+        rows = answers.0;
+        headline = answers.1;
+        are = are ∙ ap limited (same_data items.items answers.0 answers.2);
       })
-  of_found diagnostics (Refused refusal) finds are =
-      inr (record { refusal = refusal; of_text = finds; are = are })
+  of_found diagnostics (Refused refusal) answers are =
+      inr (record { refusal = refusal; of_text = answers; are = are })
 
 pub diagnostics_are : (agreed : Agreed) (text : List ℕ) (diagnostics : List Data)
     → AreDiagnostics IsFoundIn agreed text diagnostics → AreOfText agreed text diagnostics

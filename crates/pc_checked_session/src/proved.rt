@@ -59,7 +59,7 @@ fn items_of(alloc: Global, rows: &[Row]) -> Result<Vec<ReportedFinding>, AllocEr
 impl Checker for Proved {
     ghost use Rattle.pc_checked_session.specs.Found.{IsFoundIn};
 
-    ghost finds = { λ _ text found. IsFoundIn text found };
+    ghost answers = { λ _ text found. IsFoundIn text found };
 
     fn find(&self, alloc: Global, text: &str) -> Result<CheckOutcome, OutOfMemory> {
         let report = match check(alloc, text.as_bytes()) {

@@ -3,6 +3,7 @@ use Rattle.std.specs.Prelude.{◌≡◌, ℕ, ◌&&◌, Bool, true, false, not, 
 use Rattle.serde_json.specs.Data.{Data}
 use Rattle.pc_documents.specs.declared.checker.CheckOutcome.{CheckOutcome}
 use Rattle.pc_documents.specs.Agreed.{Agreed}
+use Rattle.pc_documents.specs.CheckerAnswers.{CheckerAnswer, outcome}
 use Rattle.pc_documents.specs.Diagnostics.{found_data, unknown_data}
 use Rattle.pc_documents.specs.Documents.{OpenDocument}
 
@@ -10,11 +11,11 @@ use Rattle.pc_documents.specs.Documents.{OpenDocument}
 abbrev pub is_sent : Agreed → OpenDocument → Bool
 is_sent agreed document = document.python && not agreed.pulls
 
-module _ (finds : List ℕ → CheckOutcome → Type 0) (agreed : Agreed) where
+module _ (answers : List ℕ → CheckerAnswer → Type 0) (agreed : Agreed) where
   -- the diagnostics are exactly those of what is found in the text
   pub record AreDiagnostics (text : List ℕ) (diagnostics : List Data) : Type 0 where
     pub found : CheckOutcome
-    pub finds_it : finds text found
+    pub finds_it : answers text (outcome found)
     pub are : diagnostics ≡ found_data agreed text found
 
   -- the diagnostics of a text: those of its findings, or one that says that the text is not known

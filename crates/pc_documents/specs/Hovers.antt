@@ -5,7 +5,7 @@ use Rattle.pc_source.specs.declared.fault.Refusal.{Refusal}
 use Rattle.pc_source.specs.Refusals.{code_text}
 use Rattle.pc_position.specs.declared.positions.Encoding.{Encoding}
 use Rattle.pc_position.specs.declared.positions.Position.{Position}
-use Rattle.pc_position.specs.Positions.{line_at}
+use Rattle.pc_position.specs.Positions.{line_at, IsByteAt}
 use Rattle.pc_tree.specs.Code.{text_of, label_of}
 use Rattle.pc_code_texts.specs.Findings.{meaning_of, mending_of}
 use Rattle.pc_code_texts.specs.Refusals.{refusal_title_of, refusal_meaning_of, refusal_mending_of}
@@ -14,6 +14,7 @@ use Rattle.pc_documents.specs.declared.checker.CheckOutcome.TheVariants.{Items, 
 use Rattle.pc_documents.specs.declared.checker.FlowTypes.{FlowTypes}
 use Rattle.pc_documents.specs.declared.checker.ReportedFinding.{ReportedFinding}
 use Rattle.pc_documents.specs.Agreed.{Agreed}
+use Rattle.pc_documents.specs.CheckerAnswers.{CheckerAnswer, outcome, type_shown}
 use Rattle.pc_documents.specs.Diagnostics.{position_at, start_of}
 
 -- a position is before another
@@ -56,20 +57,38 @@ ruled (byte ∷ bytes) = (byte ∷ bytes) ++ codes "\n\n---\n\n"
 abbrev pub said_after : List ℕ → ReportedFinding → List ℕ
 said_after told item = ruled told ++ item_text item
 
--- the hover text at a position: the explanation of each finding whose place covers it, in order, or of the refusal on
--- the line of its character
-abbrev pub hover_text : Agreed → List ℕ → CheckOutcome → Position → List ℕ
-hover_text agreed text (Items items) position =
-    fold said_after [] (filter (has_position agreed.encoding text position) items.items)
-hover_text agreed text (Refused refusal) position =
+-- the type at a position, as code in Markdown
+abbrev pub type_text : Option (List ℕ) → List ℕ
+type_text None = []
+type_text (Some type) = codes "```python\n" ++ (type ++ codes "\n```")
+
+-- the hover text at a position: the type there, and the explanation of each finding whose place covers it, in order; or
+-- the explanation of the refusal on the line of its character
+abbrev pub hover_text : Agreed → List ℕ → CheckOutcome → Option (List ℕ) → Position → List ℕ
+hover_text agreed text (Items items) type position =
+    fold said_after (type_text type) (filter (has_position agreed.encoding text position) items.items)
+hover_text agreed text (Refused refusal) type position =
     if line_at text (start_of text refusal.byte) == position.line then refusal_text refusal else []
 
-module _ (finds : List ℕ → CheckOutcome → Type 0) where
-  -- this is said of what is found in the text
+module _ (answers : List ℕ → CheckerAnswer → Type 0) where
+  -- the type that is shown at a byte of a text, none without a byte
+  abbrev pub IsShownAtByte : List ℕ → Option ℕ → Option (List ℕ) → Type 0
+  IsShownAtByte text None type = type ≡ None
+  IsShownAtByte text (Some byte) type = answers text (type_shown byte type)
+
+  -- the type that is shown at a position of a text: that at the first byte there
+  pub record IsShownAt (encoding : Encoding) (text : List ℕ) (position : Position) (type : Option (List ℕ)) : Type 0 where
+    pub byte : Option ℕ
+    pub is_there : IsByteAt encoding text position byte
+    pub shown : IsShownAtByte text byte type
+
+  -- this is said of what is found in the text, and of the type at the position
   pub record IsSaidOf (text : List ℕ) (position : Position) (agreed : Agreed) (told : List ℕ) : Type 0 where
     pub found : CheckOutcome
-    pub finds_it : finds text found
-    pub are : told ≡ hover_text agreed text found position
+    pub finds_it : answers text (outcome found)
+    pub type : Option (List ℕ)
+    pub shows_it : IsShownAt agreed.encoding text position type
+    pub are : told ≡ hover_text agreed text found type position
 
   -- what is said at a position of a text: nothing of one that is not known
   abbrev pub IsToldOf : Option (List ℕ) → Position → Agreed → List ℕ → Type 0
@@ -80,3 +99,9 @@ module _ (finds : List ℕ → CheckOutcome → Type 0) where
   abbrev pub IsToldAs : Bool → Option (List ℕ) → Position → Agreed → List ℕ → Type 0
   IsToldAs false text position agreed told = told ≡ []
   IsToldAs true text position agreed told = IsToldOf text position agreed told
+
+  -- the type at a position, as it is said
+  pub record IsTypeSaid (encoding : Encoding) (text : List ℕ) (position : Position) (told : List ℕ) : Type 0 where
+    pub type : Option (List ℕ)
+    pub shows_it : IsShownAt encoding text position type
+    pub are : told ≡ type_text type

@@ -1,6 +1,7 @@
 pub mod Agreed
 pub mod Anchors
 pub mod Checked
+pub mod CheckerAnswers
 pub mod Definitions
 pub mod Diagnostics
 pub mod Documents

@@ -1,6 +1,7 @@
 //! The checker of a session, and its findings.
 
-ghost use Rattle.std.specs.Prelude.{IfOk};
+ghost use Rattle.std.specs.Prelude.{IfOk, option_map, string_bytes};
+ghost use Rattle.pc_documents.specs.CheckerAnswers.{outcome, type_shown};
 
 use pc_source::{OutOfMemory, Refusal};
 use pc_tree::Finding;
@@ -27,13 +28,13 @@ pub enum CheckOutcome {
     Refused(Refusal),
 }
 
-/// A checker of texts. Its ghost member `finds` says which findings a text has; the contracts of a session cite it.
+/// A checker of texts. Its ghost member `answers` says which answers a text has; the contracts of a session cite it.
 pub trait Checker {
     ghost use Rattle.std.specs.Prelude.{ℕ, List};
-    ghost use Rattle.pc_documents.specs.declared.checker.CheckOutcome.{CheckOutcome};
+    ghost use Rattle.pc_documents.specs.CheckerAnswers.{CheckerAnswer};
 
-    /// Relates a text to the findings that the checker may return for it.
-    ghost finds: { Self → List ℕ → CheckOutcome → Type 0 };
+    /// Relates a text to the answers that the checker may give about it.
+    ghost answers: { Self → List ℕ → CheckerAnswer → Type 0 };
 
     /// Checks a text.
     ///
@@ -41,5 +42,15 @@ pub trait Checker {
     ///
     /// `OutOfMemory` only when an allocation failed.
     fn find(&self, alloc: Global, text: &str) -> Result<CheckOutcome, OutOfMemory>
-        ensures { IfOk result (finds self.now text.now) };
+        ensures { IfOk result (λ found. answers self.now text.now (outcome found)) };
+
+    /// Returns the text of the type of the smallest expression or bound name around a byte of a text, or `None` if there
+    /// is none.
+    ///
+    /// # Errors
+    ///
+    /// `OutOfMemory` only when an allocation failed.
+    fn type_at(&self, alloc: Global, text: &str, byte: usize) -> Result<Option<String>, OutOfMemory>
+        ensures { IfOk result
+            (λ shown. answers self.now text.now (type_shown byte (option_map string_bytes shown))) };
 }

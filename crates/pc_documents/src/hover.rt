@@ -1,10 +1,10 @@
 //! Hover texts: explanations of the findings at a position.
 
-ghost use Rattle.std.specs.Prelude.{◌≡◌, [], OnOk, IfOk, string_bytes, fold, filter};
+ghost use Rattle.std.specs.Prelude.{◌≡◌, ℕ, List, Option, Some, OnOk, IfOk, string_bytes, fold, filter};
 ghost use Rattle.pc_position.specs.Positions.{IsPositionOf};
 ghost use Rattle.pc_documents.specs.Agreed.{agreed_of};
 ghost use Rattle.pc_documents.specs.Hovers.{is_before, is_within, has_position, flow_text, item_text, refusal_text};
-ghost use Rattle.pc_documents.specs.Hovers.{ruled, said_after, hover_text};
+ghost use Rattle.pc_documents.specs.Hovers.{ruled, said_after, type_text, hover_text};
 
 use crate::checker::{CheckOutcome, FlowTypes, ReportedFinding};
 use crate::diagnostics::{ends_of, start_of};
@@ -103,18 +103,26 @@ fn has_position(
     (is_within(start.position, position, end.position), start)
 }
 
-/// Returns the explanations of the findings at a position, in order.
+/// Returns a type as code in Markdown.
+pub(crate) fn type_text(alloc: Global, ty: &str) -> Result<String, AllocError>
+    ensures { IfOk result (λ s. string_bytes s ≡ type_text (Some ty.now)) }
+{
+    format!(in alloc; "```python\n{ty}\n```")
+}
+
+/// Returns a text, followed by the explanations of the findings at a position, in order.
 fn items_text(
     alloc: Global,
     encoding: Encoding,
     text: &[u8],
     items: &[ReportedFinding],
+    said: String,
     position: Position,
 ) -> Result<String, AllocError>
     ensures { IfOk result (λ s. string_bytes s
-        ≡ fold said_after [] (filter (has_position encoding text.now position) items.now)) }
+        ≡ fold said_after (string_bytes said) (filter (has_position encoding text.now position) items.now)) }
 {
-    let mut told = String::new(alloc);
+    let mut told = said;
     let mut known = Mark::start();
     for item in items {
         let (has, start) = has_position(text, encoding, known, item, position);
@@ -126,18 +134,23 @@ fn items_text(
     Ok(told)
 }
 
-/// Returns the hover text at a position in Markdown; empty if nothing is found there.
+/// Returns the hover text at a position in Markdown, given the text of the type there; empty if there is neither a type
+/// nor a finding.
 pub(crate) fn hover_text(
     alloc: Global,
     settings: &Settings,
     text: &[u8],
     found: &CheckOutcome,
+    said: String,
     position: Position,
 ) -> Result<String, AllocError>
-    ensures { IfOk result (λ s. string_bytes s ≡ hover_text (agreed_of settings.now) text.now found.now position) }
+    ensures { (type : Option (List ℕ)) → string_bytes said ≡ type_text type → IfOk result
+        (λ s. string_bytes s ≡ hover_text (agreed_of settings.now) text.now found.now type position) }
 {
     match found {
-        CheckOutcome::Items(items) => items_text(alloc, settings.encoding, text, items, position),
+        CheckOutcome::Items(items) => {
+            items_text(alloc, settings.encoding, text, items, said, position)
+        }
         CheckOutcome::Refused(refusal) => {
             let start = start_of(text, refusal.byte);
             let at = mark_after(text, settings.encoding, Mark::start(), start).position;

@@ -28,7 +28,7 @@ pub fn checked_text<C: Checker>(
     settings: &Settings,
     text: &Option<String>,
 ) -> Result<Vec<Value>, OutOfMemory>
-    ensures { IfOk result (λ v. IsChecked (C.finds checker.now) (agreed_of settings.now)
+    ensures { IfOk result (λ v. IsChecked (C.answers checker.now) (agreed_of settings.now)
         (option_map string_bytes text.now) (map view v.items)) }
 {
     match text {
@@ -49,7 +49,7 @@ pub fn checked_as<C: Checker>(
     settings: &Settings,
     document: &Document,
 ) -> Result<Vec<Value>, OutOfMemory>
-    ensures { IfOk result (λ v. IsCheckedAs (C.finds checker.now) (agreed_of settings.now) document.now.python
+    ensures { IfOk result (λ v. IsCheckedAs (C.answers checker.now) (agreed_of settings.now) document.now.python
         (option_map string_bytes document.now.text) (map view v.items)) }
 {
     if document.python {

@@ -2,15 +2,35 @@
 
 ghost use Rattle.std.specs.Prelude.{IfOk, option_map, string_bytes};
 ghost use Rattle.pc_documents.specs.Agreed.{agreed_of};
-ghost use Rattle.pc_documents.specs.Hovers.{IsToldOf, IsToldAs};
+ghost use Rattle.pc_documents.specs.Hovers.{IsTypeSaid, IsToldOf, IsToldAs};
 
 use crate::checker::Checker;
 use crate::documents::Document;
-use crate::hover::hover_text;
+use crate::hover::{hover_text, type_text};
 use crate::settings::Settings;
-use pc_position::Position;
+use pc_position::{Encoding, Position, byte_at};
 use pc_source::OutOfMemory;
 use std::alloc::Global;
+
+/// Returns the type at a position of a text, as code in Markdown; empty if there is none.
+fn type_of<C: Checker>(
+    checker: &C,
+    alloc: Global,
+    encoding: Encoding,
+    text: &str,
+    position: Position,
+) -> Result<String, OutOfMemory>
+    ensures { IfOk result
+        (λ s. IsTypeSaid (C.answers checker.now) encoding text.now position (string_bytes s)) }
+{
+    let Some(byte) = byte_at(text.as_bytes(), encoding, position) else {
+        return Ok(String::new(alloc));
+    };
+    match checker.type_at(alloc, text, byte)? {
+        Some(ty) => Ok(type_text(alloc, ty.as_str())?),
+        None => Ok(String::new(alloc)),
+    }
+}
 
 /// Returns the hover text at a position of a text; empty if the text is not known.
 fn said_of<C: Checker>(
@@ -20,7 +40,7 @@ fn said_of<C: Checker>(
     text: &Option<String>,
     position: Position,
 ) -> Result<String, OutOfMemory>
-    ensures { IfOk result (λ s. IsToldOf (C.finds checker.now) (option_map string_bytes text.now) position
+    ensures { IfOk result (λ s. IsToldOf (C.answers checker.now) (option_map string_bytes text.now) position
         (agreed_of settings.now) (string_bytes s)) }
 {
     let Some(text) = text else {
@@ -28,7 +48,8 @@ fn said_of<C: Checker>(
     };
     let text = text.as_str();
     let found = checker.find(alloc, text)?;
-    Ok(hover_text(alloc, settings, text.as_bytes(), &found, position)?)
+    let said = type_of(checker, alloc, settings.encoding, text, position)?;
+    Ok(hover_text(alloc, settings, text.as_bytes(), &found, said, position)?)
 }
 
 /// Returns the hover text at a position of a document; empty if it is not Python.
@@ -39,7 +60,7 @@ pub fn said_as<C: Checker>(
     document: &Document,
     position: Position,
 ) -> Result<String, OutOfMemory>
-    ensures { IfOk result (λ s. IsToldAs (C.finds checker.now) document.now.python
+    ensures { IfOk result (λ s. IsToldAs (C.answers checker.now) document.now.python
         (option_map string_bytes document.now.text) position (agreed_of settings.now) (string_bytes s)) }
 {
     if document.python {

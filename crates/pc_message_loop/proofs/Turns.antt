@@ -8,7 +8,7 @@ use Rattle.std.specs.Io.KnownBytes.{Consumes, Appends, Keeps}
 use Rattle.pc_source.specs.declared.counted.Counted.{Counted}
 use Rattle.pc_wire.specs.Frames.{IsFrame, AreFrames, IsShort, IsLong}
 use Rattle.pc_wire.specs.Faults.{Gives, GivesFrame}
-use Rattle.pc_documents.specs.declared.checker.CheckOutcome.{CheckOutcome}
+use Rattle.pc_documents.specs.CheckerAnswers.{CheckerAnswer}
 use Rattle.pc_session.specs.Sent.{SendsStep, SendsRefusal}
 use Rattle.pc_session.specs.Sessions.{forgot}
 use Rattle.pc_session.specs.States.{State, fresh}
@@ -58,14 +58,14 @@ module _ {W : Type 0} (contents : W → Option (List ℕ)) where
         subst Taken (sym (take-append-add first bytes some.0)) (Appends-trans _ _ _ first (take some.0 bytes) all some.1),
       )
 
-module _ (finds : List ℕ → CheckOutcome → Type 0) where
+module _ (answers : List ℕ → CheckerAnswer → Type 0) where
   -- a run, and one message more
   pub run_more : (old : State) (messages : List (List ℕ)) (sent : List ℕ) (middle : State) (message more : List ℕ)
-      (new : State) → AllReplies finds old messages sent middle → ended_with middle.stage ≡ None
-      → Turn finds middle message more new → AllReplies finds old (messages ++ message ∷ []) (sent ++ more) new
+      (new : State) → AllReplies answers old messages sent middle → ended_with middle.stage ≡ None
+      → Turn answers middle message more new → AllReplies answers old (messages ++ message ∷ []) (sent ++ more) new
   run_more old [] sent middle message more new run going turn =
       let Goes : State → Type 0 = λ s. ended_with s.stage ≡ None in
-      let Turns : State → Type 0 = λ s. Turn finds s message more new in (
+      let Turns : State → Type 0 = λ s. Turn answers s message more new in (
         more,
         [],
         new,
@@ -87,21 +87,21 @@ module _ (finds : List ℕ → CheckOutcome → Type 0) where
   module _ {W : Type 0} (contents : W → Option (List ℕ)) where
     -- of the replies of a step a beginning was written
     pub some_of_step : (old new : State) (message bytes : List ℕ) (output after : Counted W) → IsShort message
-        → SendsStep finds old message bytes new → TakesSome contents bytes output after
-        → IsBegun finds contents message old output after
+        → SendsStep answers old message bytes new → TakesSome contents bytes output after
+        → IsBegun answers contents message old output after
     some_of_step old new message bytes output after short sends some =
         record { sent = bytes; new = new; turn = inl (short, sends); taken = some }
 
     -- of the refusal of a message a beginning was written
     pub some_of_refusal : (old new : State) (message bytes : List ℕ) (output after : Counted W) → IsLong message
         → SendsRefusal old bytes new → TakesSome contents bytes output after
-        → IsBegun finds contents message old output after
+        → IsBegun answers contents message old output after
     some_of_refusal old new message bytes output after long sends some =
         record { sent = bytes; new = new; turn = inr (inl (long, sends)); taken = some }
 
     -- memory was wanting, and of the word of it a beginning was written
     pub some_of_word : (old : State) (output after : Counted W) → TakesSome contents no_memory output after
-        → (message : List ℕ) → IsBegun finds contents message old output after
+        → (message : List ℕ) → IsBegun answers contents message old output after
     some_of_word old output after some message = record {
       sent = no_memory;
       new = forgot old;
@@ -112,14 +112,14 @@ module _ (finds : List ℕ → CheckOutcome → Type 0) where
   module _ {R W : Type 0} (remaining : R → Option (List ℕ)) (contents : W → Option (List ℕ)) where
     -- a message was read, and of what it comes to a beginning was written
     pub halted : (old : State) (message : List ℕ) (input rest : Counted R) (output after : Counted W)
-        → GivesFrame remaining message input rest → IsBegun finds contents message old output after
-        → OnStop finds remaining contents old input rest output after the_end.Failed
+        → GivesFrame remaining message input rest → IsBegun answers contents message old output after
+        → OnStop answers remaining contents old input rest output after the_end.Failed
     halted old message input rest output after frame begun =
         inr (record { message = message; bytes = frame.0; given = frame.1; framed = frame.2; begun = begun })
 
     -- no message was read yet
     pub served_none : (input : Counted R) (output : Counted W)
-        → IsServed finds remaining contents input input output output fresh
+        → IsServed answers remaining contents input input output output fresh
     served_none input output = record {
       messages = [];
       bytes = [];
@@ -132,9 +132,9 @@ module _ (finds : List ℕ → CheckOutcome → Type 0) where
 
     -- messages were answered, and one more is
     pub served_more : (input between rest : Counted R) (output middle after : Counted W) (old new : State)
-        → IsServed finds remaining contents input between output middle old → ended_with old.stage ≡ None
-        → IsTurned finds remaining contents old new between rest middle after
-        → IsServed finds remaining contents input rest output after new
+        → IsServed answers remaining contents input between output middle old → ended_with old.stage ≡ None
+        → IsTurned answers remaining contents old new between rest middle after
+        → IsServed answers remaining contents input rest output after new
     served_more input between rest output middle after old new served going turned = record {
       messages = served.messages ++ turned.message ∷ [];
       bytes = served.bytes ++ turned.bytes;
@@ -147,8 +147,8 @@ module _ (finds : List ℕ → CheckOutcome → Type 0) where
 
     -- messages were answered, and no more are
     pub cut_after : (input between : Counted R) (output middle : Counted W) (final : State)
-        → IsServed finds remaining contents input between output middle final
-        → IsCutShort finds remaining contents input output middle
+        → IsServed answers remaining contents input between output middle final
+        → IsCutShort answers remaining contents input output middle
     cut_after input between output middle final served = record {
       messages = served.messages;
       bytes = served.bytes;
@@ -163,11 +163,11 @@ module _ (finds : List ℕ → CheckOutcome → Type 0) where
 
     -- the input ended after what was read, and nothing more was written
     served_last : (input between rest : Counted R) (output middle after : Counted W) (final : State)
-        → IsServed finds remaining contents input between output middle final → Gives remaining [] between rest
-        → after ≡ middle → IsServed finds remaining contents input rest output after final
+        → IsServed answers remaining contents input between output middle final → Gives remaining [] between rest
+        → after ≡ middle → IsServed answers remaining contents input rest output after final
     served_last input between rest output middle after final served given same =
         let Given : List ℕ → Type 0 = λ l. Consumes (remaining input.device) (remaining rest.device) l in
-        let Served : Counted W → Type 0 = λ w. IsServed finds remaining contents input rest output w final in
+        let Served : Counted W → Type 0 = λ w. IsServed answers remaining contents input rest output w final in
         subst Served (sym same) (record {
           messages = served.messages;
           bytes = served.bytes;
@@ -183,17 +183,17 @@ module _ (finds : List ℕ → CheckOutcome → Type 0) where
 
     -- after messages that were answered, none was, for this reason
     pub stopped : (input between rest : Counted R) (output middle after : Counted W) (final : State) (end : ServingEnd)
-        → IsServed finds remaining contents input between output middle final → ended_with final.stage ≡ None
-        → OnStop finds remaining contents final between rest middle after end
-        → OnEnd finds remaining contents input rest output after end
+        → IsServed answers remaining contents input between output middle final → ended_with final.stage ≡ None
+        → OnStop answers remaining contents final between rest middle after end
+        → OnEnd answers remaining contents input rest output after end
     stopped input between rest output middle after final (the_end.Exited status) served going stop = absurd stop
     stopped input between rest output middle after final the_end.Ended served going stop =
         (final, served_last input between rest output middle after final served stop.1 stop.0, going, stop.2)
     stopped input between rest output middle after final (the_end.Broken fault) served going stop =
-        let Served : Counted W → Type 0 = λ w. IsServed finds remaining contents input between output w final in
+        let Served : Counted W → Type 0 = λ w. IsServed answers remaining contents input between output w final in
         (final, between, subst Served (sym stop.0) served, going, stop.1)
     stopped input between rest output middle after final the_end.Failed served going (inl same) =
-        let Cut : Counted W → Type 0 = λ w. IsCutShort finds remaining contents input output w in
+        let Cut : Counted W → Type 0 = λ w. IsCutShort answers remaining contents input output w in
         subst Cut (sym same) (cut_after input between output middle final served)
     stopped input between rest output middle after final the_end.Failed served going (inr halted) = record {
       messages = served.messages ++ halted.message ∷ [];

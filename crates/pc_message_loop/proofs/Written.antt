@@ -10,7 +10,7 @@ use Rattle.serde_json.specs.Written.{compact_text}
 use Rattle.pc_source.specs.declared.counted.Counted.{Counted}
 use Rattle.pc_source.specs.Taken.{TakesAll}
 use Rattle.pc_wire.specs.Frames.{frame}
-use Rattle.pc_documents.specs.declared.checker.CheckOutcome.{CheckOutcome}
+use Rattle.pc_documents.specs.CheckerAnswers.{CheckerAnswer}
 use Rattle.pc_session.specs.Exchanges.{Arrival, Exchange, Exchanges}
 use Rattle.pc_session.specs.Sent.{IsTextOf, AreSent}
 use Rattle.pc_session.specs.Shown.{lost_data}
@@ -51,17 +51,17 @@ lost_sent = record {
   framed = refl;
 }
 
-module _ (finds : List ℕ → CheckOutcome → Type 0) where
+module _ (answers : List ℕ → CheckerAnswer → Type 0) where
   -- ---- runs
 
   -- a turn is an exchange, of which the replies were sent
   record IsExchange (old : State) (message sent : List ℕ) (new : State) : Type 0 where
     lost : Bool
     replies : List Data
-    exchange : Exchange finds lost message old replies new
+    exchange : Exchange answers lost message old replies new
     are_sent : AreSent replies sent
 
-  of_turn : (old new : State) (message sent : List ℕ) → Turn finds old message sent new
+  of_turn : (old new : State) (message sent : List ℕ) → Turn answers old message sent new
       → IsExchange old message sent new
   of_turn old new message sent (inl it) = record {
     lost = false;
@@ -87,10 +87,10 @@ module _ (finds : List ℕ → CheckOutcome → Type 0) where
     arrivals : List Arrival
     came : messages_of arrivals ≡ messages
     replies : List Data
-    exchanges : Exchanges finds old arrivals replies new
+    exchanges : Exchanges answers old arrivals replies new
     are_sent : AreSent replies sent
 
-  of_run : (messages : List (List ℕ)) (old new : State) (sent : List ℕ) → AllReplies finds old messages sent new
+  of_run : (messages : List (List ℕ)) (old new : State) (sent : List ℕ) → AllReplies answers old messages sent new
       → AreExchanges old messages sent new
   of_run [] old new sent run = record {
     arrivals = [];
@@ -112,8 +112,8 @@ module _ (finds : List ℕ → CheckOutcome → Type 0) where
         are_sent = subst (λ b. AreSent (first.replies ++ rest.replies) b) (sym run.6) both;
       }
 
-  of_session : (messages : List (List ℕ)) (sent : List ℕ) (session : State) → AllReplies finds fresh messages sent session
-      → AreOfSession finds messages sent
+  of_session : (messages : List (List ℕ)) (sent : List ℕ) (session : State) → AllReplies answers fresh messages sent session
+      → AreOfSession answers messages sent
   of_session messages sent session run =
       let are = of_run messages fresh session sent run in
       record {
@@ -129,8 +129,8 @@ module _ (finds : List ℕ → CheckOutcome → Type 0) where
     -- ---- ends
 
     all_written : (input rest : Counted R) (output after : Counted W) (final : State)
-        → IsServed finds remaining contents input rest output after final
-        → IsAnswered finds remaining contents input (λ bytes. TakesAll contents bytes output after)
+        → IsServed answers remaining contents input rest output after final
+        → IsAnswered answers remaining contents input (λ bytes. TakesAll contents bytes output after)
     all_written input rest output after final served = record {
       messages = served.messages;
       given = served.bytes;
@@ -142,7 +142,7 @@ module _ (finds : List ℕ → CheckOutcome → Type 0) where
       written = served.taken;
     }
 
-    pub are_written : SessionsAreWritten finds remaining contents
+    pub are_written : SessionsAreWritten answers remaining contents
     are_written input rest output after (the_end.Exited status) it =
         all_written input rest output after it.0 it.1
     are_written input rest output after the_end.Ended it = all_written input rest output after it.0 it.1

@@ -5,7 +5,7 @@ use Rattle.pc_source.specs.declared.counted.Counted.{Counted}
 use Rattle.pc_source.specs.Taken.{TakesAll}
 use Rattle.pc_wire.specs.Faults.{Gives, IsBroken}
 use Rattle.pc_wire.specs.Frames.{IsFrame, AreFrames, IsShort, IsLong}
-use Rattle.pc_documents.specs.declared.checker.CheckOutcome.{CheckOutcome}
+use Rattle.pc_documents.specs.CheckerAnswers.{CheckerAnswer}
 use Rattle.pc_session.specs.declared.session.Stage.{Stage}
 use Rattle.pc_session.specs.declared.session.Stage.TheVariants.{Ended}
 use Rattle.pc_session.specs.Sent.{SendsStep, SendsRefusal}
@@ -30,7 +30,7 @@ module _ {W : Type 0} (contents : W → Option (List ℕ)) where
   abbrev pub TakesSome : List ℕ → Counted W → Counted W → Type 0
   TakesSome bytes output after = (n : ℕ) × Appends (contents output.device) (contents after.device) (take n bytes)
 
-module _ (finds : List ℕ → CheckOutcome → Type 0) where
+module _ (answers : List ℕ → CheckerAnswer → Type 0) where
   -- an allocation failed: no text is known from now on, and the client is informed
   pub record IsLost (old : State) (sent : List ℕ) (new : State) : Type 0 where
     pub forgets : new ≡ forgot old
@@ -39,7 +39,7 @@ module _ (finds : List ℕ → CheckOutcome → Type 0) where
   -- the replies to a message: those of a step if it is within the limit, or the refusal if it is not; or an allocation
   -- failed
   abbrev pub Turn : State → List ℕ → List ℕ → State → Type 0
-  Turn old message sent new = (IsShort message × SendsStep finds old message sent new)
+  Turn old message sent new = (IsShort message × SendsStep answers old message sent new)
       ⊎ ((IsLong message × SendsRefusal old sent new) ⊎ IsLost old sent new)
 
   -- the replies to a list of messages, one after the other; none follows `exit`

@@ -5,7 +5,7 @@ use Rattle.pc_source.specs.declared.counted.Counted.{Counted}
 use Rattle.pc_source.specs.Taken.{TakesAll}
 use Rattle.pc_wire.specs.Faults.{Gives}
 use Rattle.pc_wire.specs.Frames.{AreFrames}
-use Rattle.pc_documents.specs.declared.checker.CheckOutcome.{CheckOutcome}
+use Rattle.pc_documents.specs.CheckerAnswers.{CheckerAnswer}
 use Rattle.pc_session.specs.Exchanges.{Arrival, Exchanges}
 use Rattle.pc_session.specs.Sent.{AreSent}
 use Rattle.pc_session.specs.States.{State, fresh}
@@ -17,14 +17,14 @@ use Rattle.pc_message_loop.specs.Runs.{OnEnd, TakesSome}
 abbrev pub messages_of : List Arrival → List (List ℕ)
 messages_of arrivals = map (λ arrival. arrival.message) arrivals
 
-module _ (finds : List ℕ → CheckOutcome → Type 0) where
+module _ (answers : List ℕ → CheckerAnswer → Type 0) where
   -- the bytes are the frames of what is replied to these messages in a session from its beginning
   pub record AreOfSession (messages : List (List ℕ)) (bytes : List ℕ) : Type 0 where
     pub arrivals : List Arrival
     pub came : messages_of arrivals ≡ messages
     pub replies : List Data
     pub session : State
-    pub exchanges : Exchanges finds fresh arrivals replies session
+    pub exchanges : Exchanges answers fresh arrivals replies session
     pub are_sent : AreSent replies bytes
 
   module _ {R W : Type 0} (remaining : R → Option (List ℕ)) (contents : W → Option (List ℕ)) where
@@ -48,4 +48,4 @@ module _ (finds : List ℕ → CheckOutcome → Type 0) where
     -- where a device failed
     abbrev pub SessionsAreWritten : Type 0
     SessionsAreWritten = (input rest : Counted R) (output after : Counted W) (end : ServingEnd)
-        → OnEnd finds remaining contents input rest output after end → IsAnsweredAt end input output after
+        → OnEnd answers remaining contents input rest output after end → IsAnsweredAt end input output after

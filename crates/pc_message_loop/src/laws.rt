@@ -8,5 +8,5 @@ use std::io::{Read, Write};
 /// The law that at each end the output took the frames of what is replied, in a session from its beginning, to the
 /// messages that the input gave: all of them, or a beginning of them where a device failed.
 pub fn sessions_are_written<C: Checker, R: Read + Drop, W: Write + Drop>()
-    ensures { (checker : C) → SessionsAreWritten (C.finds checker) R.remaining W.contents }
+    ensures { (checker : C) → SessionsAreWritten (C.answers checker) R.remaining W.contents }
 {}

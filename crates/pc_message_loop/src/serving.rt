@@ -71,9 +71,9 @@ fn lost<C: Checker, W: Write + Drop>(
     session: &mut Session,
     output: &mut Counted<W>,
 ) -> Result<(), SendFault>
-    ensures written { OnOk result ((message : List ℕ) → IsWritten (C.finds checker.now) W.contents message
+    ensures written { OnOk result ((message : List ℕ) → IsWritten (C.answers checker.now) W.contents message
         (state_of session.old) (state_of session.new) output.old output.new) }
-    ensures begun { OnErr result ((message : List ℕ) → IsBegun (C.finds checker.now) W.contents message
+    ensures begun { OnErr result ((message : List ℕ) → IsBegun (C.answers checker.now) W.contents message
         (state_of session.old) output.old output.new) }
 {
     let _ = checker;
@@ -91,9 +91,9 @@ fn answered<C: Checker, W: Write + Drop>(
     output: &mut Counted<W>,
 ) -> Result<(), SendFault>
     requires { IsShort message.now }
-    ensures written { OnOk result (IsWritten (C.finds checker.now) W.contents message.now (state_of session.old)
+    ensures written { OnOk result (IsWritten (C.answers checker.now) W.contents message.now (state_of session.old)
         (state_of session.new) output.old output.new) }
-    ensures begun { OnErr result (IsBegun (C.finds checker.now) W.contents message.now (state_of session.old)
+    ensures begun { OnErr result (IsBegun (C.answers checker.now) W.contents message.now (state_of session.old)
         output.old output.new) }
 {
     match step(session, checker, alloc, message) {
@@ -110,9 +110,9 @@ fn refused<C: Checker, W: Write + Drop>(
     session: &mut Session,
     output: &mut Counted<W>,
 ) -> Result<(), SendFault>
-    ensures written { OnOk result ((message : List ℕ) → IsLong message → IsWritten (C.finds checker.now) W.contents
+    ensures written { OnOk result ((message : List ℕ) → IsLong message → IsWritten (C.answers checker.now) W.contents
         message (state_of session.old) (state_of session.new) output.old output.new) }
-    ensures begun { OnErr result ((message : List ℕ) → IsLong message → IsBegun (C.finds checker.now) W.contents
+    ensures begun { OnErr result ((message : List ℕ) → IsLong message → IsBegun (C.answers checker.now) W.contents
         message (state_of session.old) output.old output.new) }
 {
     match refuse_long(session, alloc) {
@@ -130,9 +130,9 @@ fn turn<C: Checker, R: Read + Drop, W: Write + Drop>(
     input: &mut Counted<R>,
     output: &mut Counted<W>,
 ) -> Result<(), ServingEnd>
-    ensures turn { OnOk result (IsTurned (C.finds checker.now) R.remaining W.contents (state_of session.old)
+    ensures turn { OnOk result (IsTurned (C.answers checker.now) R.remaining W.contents (state_of session.old)
         (state_of session.new) input.old input.new output.old output.new) }
-    ensures stop { IfErr result (OnStop (C.finds checker.now) R.remaining W.contents (state_of session.old) input.old
+    ensures stop { IfErr result (OnStop (C.answers checker.now) R.remaining W.contents (state_of session.old) input.old
         input.new output.old output.new) }
 {
     let done = match read_message(alloc, input) {
@@ -156,7 +156,7 @@ pub fn serve<C: Checker, R: Read + Drop, W: Write + Drop>(
     input: &mut Counted<R>,
     output: &mut Counted<W>,
 ) -> ServingEnd
-    ensures { OnEnd (C.finds checker.now) R.remaining W.contents input.old input.new output.old output.new result }
+    ensures { OnEnd (C.answers checker.now) R.remaining W.contents input.old input.new output.old output.new result }
 {
     let mut session = Session::new(alloc);
     'messages: for _ in 0..u64::MAX {

@@ -14,6 +14,7 @@ use Rattle.pc_position.specs.declared.positions.Encoding.{Encoding}
 use Rattle.pc_tree.specs.Code.{text_of}
 use Rattle.pc_code_texts.specs.Refusals.{refusal_meaning_of}
 use Rattle.pc_documents.specs.declared.checker.CheckOutcome.{CheckOutcome}
+use Rattle.pc_documents.specs.CheckerAnswers.{CheckerAnswer}
 use Rattle.pc_documents.specs.declared.checker.CheckOutcome.TheVariants.{Items, Refused}
 use Rattle.pc_documents.specs.declared.checker.ReportedFinding.{ReportedFinding}
 use Rattle.pc_documents.specs.Agreed.{Agreed}
@@ -214,8 +215,8 @@ unreadable code old new replies turn = turned turn (
       (unknown_shallow (filter (is_sent old.agreed) old.documents)) (told_of_shallow old.documents),
 )
 
-module _ (finds : List ℕ → CheckOutcome → Type 0) where
-  checked_low : (agreed : Agreed) (text : Option (List ℕ)) (ds : List Data) → IsChecked finds agreed text ds
+module _ (answers : List ℕ → CheckerAnswer → Type 0) where
+  checked_low : (agreed : Agreed) (text : Option (List ℕ)) (ds : List Data) → IsChecked answers agreed text ds
       → items_depth (items_of ds) ≤ 3
   checked_low agreed None ds checked =
       subst (λ (l : List Data). items_depth (items_of l) ≤ 3) (sym checked) unknown_low
@@ -223,13 +224,13 @@ module _ (finds : List ℕ → CheckOutcome → Type 0) where
       subst (λ (l : List Data). items_depth (items_of l) ≤ 3) (sym checked.are) (found_low agreed text checked.found)
 
   checked_as_low : (agreed : Agreed) (python : Bool) (text : Option (List ℕ)) (ds : List Data)
-      → IsCheckedAs finds agreed python text ds → items_depth (items_of ds) ≤ 3
+      → IsCheckedAs answers agreed python text ds → items_depth (items_of ds) ≤ 3
   checked_as_low agreed false text ds checked =
       subst (λ (l : List Data). items_depth (items_of l) ≤ 3) (sym checked) (z 3)
   checked_as_low agreed true text ds checked = checked_low agreed text ds checked
 
   sent_where : (agreed : Agreed) (sent : Bool) (document : OpenDocument) (replies : List Data)
-      → IsSentWhere finds agreed sent document replies → AreShallow replies
+      → IsSentWhere answers agreed sent document replies → AreShallow replies
   sent_where agreed false document replies it = subst AreShallow (sym it) tt
   sent_where agreed true document replies it = subst AreShallow (sym it.are) (
     publish_low document.uri document.version it.diagnostics
@@ -238,16 +239,16 @@ module _ (finds : List ℕ → CheckOutcome → Type 0) where
   )
 
   published : (agreed : Agreed) (document : OpenDocument) (replies : List Data)
-      → IsPublished finds agreed document replies → AreShallow replies
+      → IsPublished answers agreed document replies → AreShallow replies
   published agreed document replies it = sent_where agreed (is_sent agreed document) document replies it
 
-  opened : (message : Data) (old new : State) (replies : List Data) → OnOpen finds message old replies new
+  opened : (message : Data) (old new : State) (replies : List Data) → OnOpen answers message old replies new
       → AreShallow replies
   opened message old new replies (inl it) =
       published old.agreed (opened_in message it.uri) replies it.kept.published
   opened message old new replies (inr it) = answered it.answered log_low
 
-  changed : (message : Data) (old new : State) (replies : List Data) → OnChange finds message old replies new
+  changed : (message : Data) (old new : State) (replies : List Data) → OnChange answers message old replies new
       → AreShallow replies
   changed message old new replies (inl it) =
       published old.agreed (changed_in message it.document) replies it.kept.published
@@ -262,7 +263,7 @@ module _ (finds : List ℕ → CheckOutcome → Type 0) where
   closed message old new replies (inr (inr it)) = answered it.answered log_low
 
   noticed : (method : LspMethod) (message : Data) (old new : State) (replies : List Data)
-      → OnNotice finds method message old replies new → AreShallow replies
+      → OnNotice answers method message old replies new → AreShallow replies
   noticed DidOpen message old new replies h = opened message old new replies h
   noticed DidChange message old new replies h = changed message old new replies h
   noticed DidClose message old new replies h = closed message old new replies h
@@ -279,14 +280,14 @@ module _ (finds : List ℕ → CheckOutcome → Type 0) where
   noticed Other message old new replies h = turned h tt
 
   staged : (stage : Stage) (method : LspMethod) (message : Data) (old new : State) (replies : List Data)
-      → OnStage finds stage method message old replies new → AreShallow replies
+      → OnStage answers stage method message old replies new → AreShallow replies
   staged Running method message old new replies h = noticed method message old new replies h
   staged Fresh method message old new replies h = turned h tt
   staged ShutDown method message old new replies h = turned h tt
   staged (Ended status) method message old new replies h = turned h tt
 
   notified : (method : LspMethod) (stage : Stage) (message : Data) (old new : State) (replies : List Data)
-      → OnNotification finds method stage message old replies new → AreShallow replies
+      → OnNotification answers method stage message old replies new → AreShallow replies
   notified Exit stage message old new replies h = turned h tt
   notified Initialize stage message old new replies h = staged stage Initialize message old new replies h
   notified Initialized stage message old new replies h = staged stage Initialized message old new replies h
@@ -303,7 +304,7 @@ module _ (finds : List ℕ → CheckOutcome → Type 0) where
   notified Other stage message old new replies h = staged stage Other message old new replies h
 
   pulled : (message id : Data) (old new : State) (replies : List Data) → depth id ≡ 0
-      → RepliesWith (IsPulled finds message id old) old replies new → AreShallow replies
+      → RepliesWith (IsPulled answers message id old) old replies new → AreShallow replies
   pulled message id old new replies flat it =
       let Low : Data → Type 0 = λ d. depth d ≤ max_depth in
       let low_reply : Low it.reply = elim it.is_reply [
@@ -317,7 +318,7 @@ module _ (finds : List ℕ → CheckOutcome → Type 0) where
       answered it.answered low_reply
 
   hovered : (message id : Data) (old new : State) (replies : List Data) → depth id ≡ 0
-      → RepliesWith (IsHovered finds message id old) old replies new → AreShallow replies
+      → RepliesWith (IsHovered answers message id old) old replies new → AreShallow replies
   hovered message id old new replies flat it =
       let Low : Data → Type 0 = λ d. depth d ≤ max_depth in
       let low_reply : Low it.reply = elim it.is_reply [
@@ -353,7 +354,7 @@ module _ (finds : List ℕ → CheckOutcome → Type 0) where
       answered it.answered low_reply
 
   running : (method : LspMethod) (id message : Data) (old new : State) (replies : List Data) → depth id ≡ 0
-      → OnRunning finds method id message old replies new → AreShallow replies
+      → OnRunning answers method id message old replies new → AreShallow replies
   running Shutdown id message old new replies flat h = answered h (result_low id null flat (z 5))
   running Hover id message old new replies flat h = hovered message id old new replies flat h
   running Diagnostic id message old new replies flat h = pulled message id old new replies flat h
@@ -390,7 +391,7 @@ module _ (finds : List ℕ → CheckOutcome → Type 0) where
   begun Other id message old new replies flat h = answered h (refusal_low ServerNotInitialized id flat)
 
   requested : (stage : Stage) (method : LspMethod) (id message : Data) (old new : State) (replies : List Data)
-      → depth id ≡ 0 → OnRequest finds stage method id message old replies new → AreShallow replies
+      → depth id ≡ 0 → OnRequest answers stage method id message old replies new → AreShallow replies
   requested Fresh method id message old new replies flat h = begun method id message old new replies flat h
   requested Running method id message old new replies flat h = running method id message old new replies flat h
   requested ShutDown method id message old new replies flat h = answered h (refusal_low InvalidRequest id flat)
@@ -398,7 +399,7 @@ module _ (finds : List ℕ → CheckOutcome → Type 0) where
       answered h (refusal_low InvalidRequest id flat)
 
   with_method : (method : LspMethod) (id : Option Data) (message : Data) (old new : State) (replies : List Data)
-      → OnMethod finds method id message old replies new → AreShallow replies
+      → OnMethod answers method id message old replies new → AreShallow replies
   with_method method None message old new replies h = notified method old.stage message old new replies h
   with_method method (Some id) message old new replies (inl h) =
       requested old.stage method id message old new replies (flat_identifier id h.0) h.1
@@ -412,7 +413,7 @@ module _ (finds : List ℕ → CheckOutcome → Type 0) where
   without_method (Some id) message old new replies (inr h) =
       answered h.1 (refusal_low InvalidRequest (identifier_or_null id) (flat_or_null id))
 
-  messaged : (message : Data) (old new : State) (replies : List Data) → OnMessage finds message old replies new
+  messaged : (message : Data) (old new : State) (replies : List Data) → OnMessage answers message old replies new
       → AreShallow replies
   messaged message old new replies (inl it) = with_method it.method (get (codes "id") message) message old new replies
       it.answered
@@ -420,11 +421,11 @@ module _ (finds : List ℕ → CheckOutcome → Type 0) where
       it.answered
 
   spoiled : (document : Option OpenDocument) (old new : State) (replies : List Data)
-      → OnSpoiled finds document old replies new → AreShallow replies
+      → OnSpoiled answers document old replies new → AreShallow replies
   spoiled None old new replies h = unreadable ParseError old new replies h
   spoiled (Some document) old new replies h = published old.agreed document replies h.published
 
-  stepped : (old new : State) (bytes : List ℕ) (replies : List Data) → Step finds old bytes replies new
+  stepped : (old new : State) (bytes : List ℕ) (replies : List Data) → Step answers old bytes replies new
       → AreShallow replies
   stepped old new bytes replies (inl it) = messaged it.message old new replies it.answered
   stepped old new bytes replies (inr it) = spoiled it.document old new replies it.spoiled
@@ -451,10 +452,10 @@ sent_of replies bytes shallow spelled = record {
 }
 
 -- what a step replies is sent where it is spelled
-pub sent : (finds : List ℕ → CheckOutcome → Type 0) (old new : State) (message bytes : List ℕ) (replies : List Data)
-    → Step finds old message replies new → AreSpelled replies bytes → AreSent replies bytes
-sent finds old new message bytes replies step spelled =
-    sent_of replies bytes (stepped finds old new message replies step) spelled
+pub sent : (answers : List ℕ → CheckerAnswer → Type 0) (old new : State) (message bytes : List ℕ) (replies : List Data)
+    → Step answers old message replies new → AreSpelled replies bytes → AreSent replies bytes
+sent answers old new message bytes replies step spelled =
+    sent_of replies bytes (stepped answers old new message replies step) spelled
 
 -- what is replied to a message that is not read is sent where it is spelled
 pub refused_sent : (old new : State) (bytes : List ℕ) (replies : List Data) → IsUnreadable TooLong old replies new

@@ -1,16 +1,19 @@
 -- The replies to messages are determined, over a checker that always says the same of a text.
-use Rattle.std.specs.Prelude.{◌⊎◌, codes, option_and_then, is_some}
+use Rattle.std.specs.Prelude.{◌⊎◌, ⊎_elim, codes, option_and_then, is_some}
 use Rattle.std.proofs.Common.{◌≡◌, ℕ, ◌<◌, ◌≤◌, length, Bool, true, false, List, [], ◌∷◌, ◌++◌, Option, None, Some, sym}
 use Rattle.std.proofs.Common.{ap, ap₂, refl, ◌∙◌, subst, inl, inr, true≢false, arith}
+use Rattle.std.proofs.lemmas.Bool.{cases_order}
 use Rattle.serde_json.specs.Data.{Data, null, array, no_items}
 use Rattle.serde_json.specs.Find.{get}
+use Rattle.pc_position.specs.declared.positions.Encoding.{Encoding}
 use Rattle.pc_position.specs.declared.positions.Position.{Position}
+use Rattle.pc_position.specs.Positions.{IsFirstByte, IsByteAt}
 use Rattle.pc_wire.specs.Frames.{message_limit}
-use Rattle.pc_documents.specs.declared.checker.CheckOutcome.{CheckOutcome}
+use Rattle.pc_documents.specs.CheckerAnswers.{CheckerAnswer, outcome, type_shown}
 use Rattle.pc_documents.specs.Agreed.{Agreed}
 use Rattle.pc_documents.specs.Checked.{IsChecked, IsCheckedAs, is_sent}
 use Rattle.pc_documents.specs.Documents.{document_at, is_open, without_document, OpenDocument}
-use Rattle.pc_documents.specs.Hovers.{IsToldOf, IsToldAs}
+use Rattle.pc_documents.specs.Hovers.{IsShownAtByte, IsShownAt, IsToldOf, IsToldAs, hover_text}
 use Rattle.pc_documents.specs.Definitions.{AreDefinitionsAs}
 use Rattle.pc_documents.specs.Symbols.{AreSymbolsAs}
 use Rattle.pc_documents.proofs.Defining.{same_definitions}
@@ -144,46 +147,78 @@ once_spoils bytes old (Some d) None a b = absurd (some_none (sym a.2 ∙ b a.0 a
 once_spoils bytes old (Some d) (Some e) a b =
     sym a.2 ∙ (ap (λ m. spoiled_in m old) (some_inj (sym a.1.1 ∙ b.1.1)) ∙ b.2)
 
-module _ (finds : List ℕ → CheckOutcome → Type 0) (same : IsDetermined finds) where
+-- ---- the first byte at a position
+
+first_bytes : (encoding : Encoding) (text : List ℕ) (position : Position) (byte other : ℕ)
+    → IsFirstByte encoding text position byte → IsFirstByte encoding text position other → byte ≡ other
+first_bytes encoding text position byte other a b = ⊎_elim (λ same. same)
+    (λ apart. ⊎_elim (λ less. absurd (b.first byte less a.has)) (λ more. absurd (a.first other more b.has)) apart)
+    (cases_order byte other)
+
+one_byte : (encoding : Encoding) (text : List ℕ) (position : Position) (byte other : Option ℕ)
+    → IsByteAt encoding text position byte → IsByteAt encoding text position other → byte ≡ other
+one_byte encoding text position None None a b = refl
+one_byte encoding text position None (Some c) a b = absurd (a c b.within b.has)
+one_byte encoding text position (Some c) None a b = absurd (b c a.within a.has)
+one_byte encoding text position (Some c) (Some d) a b = ap Some (first_bytes encoding text position c d a b)
+
+module _ (answers : List ℕ → CheckerAnswer → Type 0) (same : IsDetermined answers) where
   -- ---- what is said of a text
 
-  one_checked : (agreed : Agreed) (text : Option (List ℕ)) (a b : List Data) → IsChecked finds agreed text a
-      → IsChecked finds agreed text b → a ≡ b
+  one_checked : (agreed : Agreed) (text : Option (List ℕ)) (a b : List Data) → IsChecked answers agreed text a
+      → IsChecked answers agreed text b → a ≡ b
   one_checked agreed None a b x y = x ∙ sym y
   one_checked agreed (Some text) a b x y =
-      x.are ∙ (same_diagnostics agreed text x.found y.found (same text x.found y.found x.finds_it y.finds_it)
+      x.are ∙ (same_diagnostics agreed text x.found y.found
+      (same text (outcome x.found) (outcome y.found) x.finds_it y.finds_it)
       ∙ sym y.are)
 
   one_checked_as : (agreed : Agreed) (python : Bool) (text : Option (List ℕ)) (a b : List Data)
-      → IsCheckedAs finds agreed python text a → IsCheckedAs finds agreed python text b → a ≡ b
+      → IsCheckedAs answers agreed python text a → IsCheckedAs answers agreed python text b → a ≡ b
   one_checked_as agreed false text a b x y = x ∙ sym y
   one_checked_as agreed true text a b x y = one_checked agreed text a b x y
 
   one_sent : (sent : Bool) (agreed : Agreed) (document : OpenDocument) (a b : List Data)
-      → IsSentWhere finds agreed sent document a → IsSentWhere finds agreed sent document b → a ≡ b
+      → IsSentWhere answers agreed sent document a → IsSentWhere answers agreed sent document b → a ≡ b
   one_sent false agreed document a b x y = x ∙ sym y
   one_sent true agreed document a b x y =
       x.are ∙ (ap (λ d. publish_data document.uri document.version d ∷ [])
       (one_checked agreed document.text x.diagnostics y.diagnostics x.is_checked y.is_checked) ∙ sym y.are)
 
+  -- ---- the type at a position
+
+  one_type_at : (text : List ℕ) (byte other : Option ℕ) → byte ≡ other → (a b : Option (List ℕ))
+      → IsShownAtByte answers text byte a → IsShownAtByte answers text other b → a ≡ b
+  one_type_at text None None e a b x y = x ∙ sym y
+  one_type_at text None (Some c) e a b x y = absurd (some_none (sym e))
+  one_type_at text (Some c) None e a b x y = absurd (some_none e)
+  one_type_at text (Some c) (Some d) e a b x y = same text (type_shown c a) (type_shown d b) x y (some_inj e)
+
+  one_type : (encoding : Encoding) (text : List ℕ) (position : Position) (a b : Option (List ℕ))
+      → IsShownAt answers encoding text position a → IsShownAt answers encoding text position b → a ≡ b
+  one_type encoding text position a b x y = one_type_at text x.byte y.byte
+      (one_byte encoding text position x.byte y.byte x.is_there y.is_there) a b x.shown y.shown
+
   one_told_of : (text : Option (List ℕ)) (position : Position) (agreed : Agreed) (a b : List ℕ)
-      → IsToldOf finds text position agreed a → IsToldOf finds text position agreed b → a ≡ b
+      → IsToldOf answers text position agreed a → IsToldOf answers text position agreed b → a ≡ b
   one_told_of None position agreed a b x y = x ∙ sym y
   one_told_of (Some text) position agreed a b x y =
-      x.are ∙ (same_hovers agreed text position x.found y.found (same text x.found y.found x.finds_it y.finds_it)
-      ∙ sym y.are)
+      x.are ∙ (same_hovers agreed text position x.type x.found y.found
+      (same text (outcome x.found) (outcome y.found) x.finds_it y.finds_it)
+      ∙ (ap (λ (t : Option (List ℕ)). hover_text agreed text y.found t position)
+      (one_type agreed.encoding text position x.type y.type x.shows_it y.shows_it) ∙ sym y.are))
 
   one_told_as : (python : Bool) (text : Option (List ℕ)) (position : Position) (agreed : Agreed) (a b : List ℕ)
-      → IsToldAs finds python text position agreed a → IsToldAs finds python text position agreed b → a ≡ b
+      → IsToldAs answers python text position agreed a → IsToldAs answers python text position agreed b → a ≡ b
   one_told_as false text position agreed a b x y = x ∙ sym y
   one_told_as true text position agreed a b x y = one_told_of text position agreed a b x y
 
   -- ---- requests
 
-  one_pulled : (message id : Data) (old : State) (a b : Data) → IsPulled finds message id old a
-      → IsPulled finds message id old b → a ≡ b
+  one_pulled : (message id : Data) (old : State) (a b : Data) → IsPulled answers message id old a
+      → IsPulled answers message id old b → a ≡ b
   one_pulled message id old a b (inl x) (inl y) =
-      let Checks : OpenDocument → Type 0 = λ d. IsCheckedAs finds old.agreed d.python d.text x.diagnostics in
+      let Checks : OpenDocument → Type 0 = λ d. IsCheckedAs answers old.agreed d.python d.text x.diagnostics in
       let checked : Checks y.document = subst Checks (some_inj (sym x.named ∙ y.named)) x.is_checked in
       x.replied ∙ (ap (λ d. result_data id (full_data d)) (one_checked_as old.agreed y.document.python
       y.document.text x.diagnostics y.diagnostics checked y.is_checked) ∙ sym y.replied)
@@ -191,10 +226,10 @@ module _ (finds : List ℕ → CheckOutcome → Type 0) (same : IsDetermined fin
   one_pulled message id old a b (inr x) (inl y) = absurd (some_none (sym y.named ∙ x.0))
   one_pulled message id old a b (inr x) (inr y) = x.1 ∙ sym y.1
 
-  one_hovered : (message id : Data) (old : State) (a b : Data) → IsHovered finds message id old a
-      → IsHovered finds message id old b → a ≡ b
+  one_hovered : (message id : Data) (old : State) (a b : Data) → IsHovered answers message id old a
+      → IsHovered answers message id old b → a ≡ b
   one_hovered message id old a b (inl x) (inl y) =
-      let Tells : OpenDocument → Position → Type 0 = λ d p. IsToldAs finds d.python d.text p old.agreed x.told in
+      let Tells : OpenDocument → Position → Type 0 = λ d p. IsToldAs answers d.python d.text p old.agreed x.told in
       let placed : Tells x.document y.position =
       subst (Tells x.document) (some_inj (sym x.placed ∙ y.placed)) x.is_told in
       let tells : Tells y.document y.position =
@@ -243,11 +278,11 @@ module _ (finds : List ℕ → CheckOutcome → Type 0) (same : IsDetermined fin
   ]
   one_located message id old a b (inr x) (inr y) = x.1 ∙ sym y.1
 
-  once_running : (method : LspMethod) (id message : Data) (old : State) → Once (OnRunning finds method id message old)
+  once_running : (method : LspMethod) (id message : Data) (old : State) → Once (OnRunning answers method id message old)
   once_running Shutdown id message old = once_turn (result_data id null ∷ []) (at_stage ShutDown old)
   once_running Hover id message old =
-      once_with (IsHovered finds message id old) old (one_hovered message id old)
-  once_running Diagnostic id message old = once_with (IsPulled finds message id old) old (one_pulled message id old)
+      once_with (IsHovered answers message id old) old (one_hovered message id old)
+  once_running Diagnostic id message old = once_with (IsPulled answers message id old) old (one_pulled message id old)
   once_running DocumentSymbol id message old = once_with (IsSymbolReply message id old) old (one_listed message id old)
   once_running Definition id message old = once_with (IsLocated message id old) old (one_located message id old)
   once_running CodeAction id message old = once_turn (result_data id (array no_items) ∷ []) old
@@ -255,41 +290,41 @@ module _ (finds : List ℕ → CheckOutcome → Type 0) (same : IsDetermined fin
   once_running _ id message old = once_turn (refusal_of MethodNotFound id ∷ []) old
 
   once_request : (stage : Stage) (method : LspMethod) (id message : Data) (old : State)
-      → Once (OnRequest finds stage method id message old)
+      → Once (OnRequest answers stage method id message old)
   once_request Fresh method id message old = once_fresh method id message old
   once_request Running method id message old = once_running method id message old
   once_request _ method id message old = once_turn (refusal_of InvalidRequest id ∷ []) old
 
   -- ---- notifications
 
-  once_kept : (document : OpenDocument) (old : State) → Once (IsKept finds document old)
+  once_kept : (document : OpenDocument) (old : State) → Once (IsKept answers document old)
   once_kept document old r s n m a b = (
     one_sent (is_sent old.agreed document) old.agreed document r s a.published b.published,
     a.new_is ∙ sym b.new_is,
   )
 
-  once_opened : (message : Data) (old : State) → Once (IsOpened finds message old)
+  once_opened : (message : Data) (old : State) → Once (IsOpened answers message old)
   once_opened message old r s n m a b =
-      let Keeps : List ℕ → Type 0 = λ u. IsKept finds (opened_in message u) old r n in
+      let Keeps : List ℕ → Type 0 = λ u. IsKept answers (opened_in message u) old r n in
       once_kept (opened_in message b.uri) old r s n m (subst Keeps (some_inj (sym a.names ∙ b.names)) a.kept) b.kept
 
-  once_changed : (message : Data) (old : State) → Once (IsChanged finds message old)
+  once_changed : (message : Data) (old : State) → Once (IsChanged answers message old)
   once_changed message old r s n m a b =
-      let Keeps : OpenDocument → Type 0 = λ d. IsKept finds (changed_in message d) old r n in
+      let Keeps : OpenDocument → Type 0 = λ d. IsKept answers (changed_in message d) old r n in
       once_kept (changed_in message b.document) old r s n m
       (subst Keeps (some_inj (sym a.named ∙ b.named)) a.kept) b.kept
 
-  once_open : (message : Data) (old : State) → Once (OnOpen finds message old)
+  once_open : (message : Data) (old : State) → Once (OnOpen answers message old)
   once_open message old =
-      let Opened : List Data → State → Type 0 = IsOpened finds message old in
+      let Opened : List Data → State → Type 0 = IsOpened answers message old in
       let Unnamed : List Data → State → Type 0 = IsUnnamed (codes "didOpen names no document") message old in
       once_either Opened Unnamed (once_opened message old)
       (once_unnamed (codes "didOpen names no document") message old)
       (λ r s n m a b. some_none (sym a.names ∙ b.none))
 
-  once_change : (message : Data) (old : State) → Once (OnChange finds message old)
+  once_change : (message : Data) (old : State) → Once (OnChange answers message old)
   once_change message old =
-      let Changed : List Data → State → Type 0 = IsChanged finds message old in
+      let Changed : List Data → State → Type 0 = IsChanged answers message old in
       let Outdated : List Data → State → Type 0 = IsOutdated message old in
       let NotOpen : List Data → State → Type 0 =
       IsNotOpen (codes "didChange names a document that is not open") message old in
@@ -315,26 +350,26 @@ module _ (finds : List ℕ → CheckOutcome → Type 0) (same : IsDetermined fin
       ] in
       once_either Changed Other (once_changed message old) other apart
 
-  once_notice : (method : LspMethod) (message : Data) (old : State) → Once (OnNotice finds method message old)
+  once_notice : (method : LspMethod) (message : Data) (old : State) → Once (OnNotice answers method message old)
   once_notice DidOpen message old = once_open message old
   once_notice DidChange message old = once_change message old
   once_notice DidClose message old = once_close message old
   once_notice _ message old = once_turn [] old
 
   once_at_stage : (stage : Stage) (method : LspMethod) (message : Data) (old : State)
-      → Once (OnStage finds stage method message old)
+      → Once (OnStage answers stage method message old)
   once_at_stage Running method message old = once_notice method message old
   once_at_stage _ method message old = once_turn [] old
 
   once_notification : (method : LspMethod) (stage : Stage) (message : Data) (old : State)
-      → Once (OnNotification finds method stage message old)
+      → Once (OnNotification answers method stage message old)
   once_notification Exit stage message old = once_turn [] (at_stage (Ended (exit_status stage)) old)
   once_notification method stage message old = once_at_stage stage method message old
 
   -- ---- messages
 
   once_method : (method : LspMethod) (id : Option Data) (message : Data) (old : State)
-      → Once (OnMethod finds method id message old)
+      → Once (OnMethod answers method id message old)
   once_method method None message old r s n m a b = once_notification method old.stage message old r s n m a b
   once_method method (Some id) message old r s n m (inl a) (inl b) =
       once_request old.stage method id message old r s n m a.1 b.1
@@ -343,29 +378,29 @@ module _ (finds : List ℕ → CheckOutcome → Type 0) (same : IsDetermined fin
   once_method method (Some id) message old r s n m (inr a) (inr b) =
       once_turn (refusal_of InvalidRequest null ∷ []) old r s n m a.1 b.1
 
-  once_message : (message : Data) (old : State) → Once (OnMessage finds message old)
+  once_message : (message : Data) (old : State) → Once (OnMessage answers message old)
   once_message message old r s n m (inl a) (inl b) =
       let id : Option Data = get (codes "id") message in
-      let Does : LspMethod → Type 0 = λ x. OnMethod finds x id message old r n in
+      let Does : LspMethod → Type 0 = λ x. OnMethod answers x id message old r n in
       once_method b.method id message old r s n m (subst Does (some_inj (sym a.names ∙ b.names)) a.answered) b.answered
   once_message message old r s n m (inl a) (inr b) = absurd (some_none (sym a.names ∙ b.none))
   once_message message old r s n m (inr a) (inl b) = absurd (some_none (sym b.names ∙ a.none))
   once_message message old r s n m (inr a) (inr b) =
       once_no_method (get (codes "id") message) message old r s n m a.answered b.answered
 
-  once_spoiled : (document : Option OpenDocument) (old : State) → Once (OnSpoiled finds document old)
+  once_spoiled : (document : Option OpenDocument) (old : State) → Once (OnSpoiled answers document old)
   once_spoiled None old =
       once_turn (refusal_of ParseError null ∷ (unknown_all old ++ told_of old.documents)) (forgot old)
   once_spoiled (Some document) old = once_kept document old
 
-  once_step : (bytes : List ℕ) (old : State) → Once (Step finds old bytes)
+  once_step : (bytes : List ℕ) (old : State) → Once (Step answers old bytes)
   once_step bytes old r s n m (inl a) (inl b) =
-      let Does : Data → Type 0 = λ x. OnMessage finds x old r n in
+      let Does : Data → Type 0 = λ x. OnMessage answers x old r n in
       once_message b.message old r s n m (subst Does (some_inj (sym a.spelled ∙ b.spelled)) a.answered) b.answered
   once_step bytes old r s n m (inl a) (inr b) = absurd (some_none (sym a.spelled ∙ b.no_json a.utf8))
   once_step bytes old r s n m (inr a) (inl b) = absurd (some_none (sym b.spelled ∙ a.no_json b.utf8))
   once_step bytes old r s n m (inr a) (inr b) =
-      let Does : Option OpenDocument → Type 0 = λ x. OnSpoiled finds x old r n in
+      let Does : Option OpenDocument → Type 0 = λ x. OnSpoiled answers x old r n in
       let one : a.document ≡ b.document = once_spoils bytes old a.document b.document a.spoils b.spoils in
       once_spoiled b.document old r s n m (subst Does one a.spoiled) b.spoiled
 
@@ -374,7 +409,7 @@ module _ (finds : List ℕ → CheckOutcome → Type 0) (same : IsDetermined fin
   never_both : (message : List ℕ) → length message ≤ message_limit → message_limit < length message → ⊥
   never_both message short long = omega arith
 
-  once_exchange : (lost : Bool) (message : List ℕ) (old : State) → Once (Exchange finds lost message old)
+  once_exchange : (lost : Bool) (message : List ℕ) (old : State) → Once (Exchange answers lost message old)
   once_exchange true message old r s n m a b = once_turn (lost_data ∷ []) (forgot old) r s n m a b
   once_exchange false message old r s n m (inl a) (inl b) = once_step message old r s n m a.1 b.1
   once_exchange false message old r s n m (inl a) (inr b) = absurd (never_both message a.0 b.0)
@@ -382,14 +417,14 @@ module _ (finds : List ℕ → CheckOutcome → Type 0) (same : IsDetermined fin
   once_exchange false message old r s n m (inr a) (inr b) =
       once_turn (refusal_of TooLong null ∷ (unknown_all old ++ told_of old.documents)) (forgot old) r s n m a.1 b.1
 
-  once_exchanges : (arrivals : List Arrival) (old : State) → Once (Exchanges finds old arrivals)
+  once_exchanges : (arrivals : List Arrival) (old : State) → Once (Exchanges answers old arrivals)
   once_exchanges [] old r s n m a b = (a.0 ∙ sym b.0, a.1 ∙ sym b.1)
   once_exchanges (arrival ∷ arrivals) old r s n m a b =
       let first = once_exchange arrival.lost arrival.message old a.0 b.0 a.2 b.2 a.3 b.3 in
-      let Goes : State → Type 0 = λ x. Exchanges finds x arrivals a.1 n in
+      let Goes : State → Type 0 = λ x. Exchanges answers x arrivals a.1 n in
       let rest = once_exchanges arrivals b.2 a.1 b.1 n m (subst Goes first.1 a.4) b.4 in
       (a.5 ∙ (ap₂ (λ x y. x ++ y) first.0 rest.0 ∙ sym b.5), rest.1)
 
-  pub determined : RepliesAreDetermined finds
+  pub determined : RepliesAreDetermined answers
   determined arrivals replies others session other a b =
       once_exchanges arrivals fresh replies others session other a b

@@ -2,7 +2,7 @@
 use Rattle.std.proofs.Common.{◌≡◌, ℕ, Bool, true, false, List, [], ◌∷◌, ◌++◌, refl, sym, ap, ◌∙◌, subst, inl, inr}
 use Rattle.std.proofs.Common.{append_assoc, append-nil}
 use Rattle.serde_json.specs.Data.{Data}
-use Rattle.pc_documents.specs.declared.checker.CheckOutcome.{CheckOutcome}
+use Rattle.pc_documents.specs.CheckerAnswers.{CheckerAnswer}
 use Rattle.pc_session.specs.Exchanges.{Arrival, Exchange, Exchanges, SessionsStayInStep, SessionsGoOn}
 use Rattle.pc_session.specs.Sessions.{forgot}
 use Rattle.pc_session.specs.Shown.{lost_data}
@@ -10,27 +10,27 @@ use Rattle.pc_session.specs.States.{State, fresh}
 use Rattle.pc_session.proofs.Showing.{Holds, turned, lost, too_long}
 use Rattle.pc_session.proofs.StepsInStep.{stepped}
 
-module _ (finds : List ℕ → CheckOutcome → Type 0) where
+module _ (answers : List ℕ → CheckerAnswer → Type 0) where
   exchanged : (was_lost : Bool) (message : List ℕ) (sent replies : List Data) (old new : State)
-      → Exchange finds was_lost message old replies new → Holds finds sent old → Holds finds (sent ++ replies) new
+      → Exchange answers was_lost message old replies new → Holds answers sent old → Holds answers (sent ++ replies) new
   exchanged true message sent replies old new turn h =
-      turned finds sent replies (lost_data ∷ []) old (forgot old) new turn (lost finds sent old h)
-  exchanged false message sent replies old new (inl it) h = stepped finds message sent replies old new it.1 h
-  exchanged false message sent replies old new (inr it) h = too_long finds sent replies old new it.1 h
+      turned answers sent replies (lost_data ∷ []) old (forgot old) new turn (lost answers sent old h)
+  exchanged false message sent replies old new (inl it) h = stepped answers message sent replies old new it.1 h
+  exchanged false message sent replies old new (inr it) h = too_long answers sent replies old new it.1 h
 
   all_exchanged : (arrivals : List Arrival) (sent replies : List Data) (old new : State)
-      → Exchanges finds old arrivals replies new → Holds finds sent old → Holds finds (sent ++ replies) new
+      → Exchanges answers old arrivals replies new → Holds answers sent old → Holds answers (sent ++ replies) new
   all_exchanged [] sent replies old new it h =
       let same : sent ++ replies ≡ sent = ap (λ l. sent ++ l) it.0 ∙ append-nil sent in
-      subst (λ r. Holds finds r new) (sym same) (subst (λ s. Holds finds sent s) (sym it.1) h)
+      subst (λ r. Holds answers r new) (sym same) (subst (λ s. Holds answers sent s) (sym it.1) h)
   all_exchanged (arrival ∷ arrivals) sent replies old new it h =
-      let first : Holds finds (sent ++ it.0) it.2 =
+      let first : Holds answers (sent ++ it.0) it.2 =
       exchanged arrival.lost arrival.message sent it.0 old it.2 it.3 h in
-      let all : Holds finds ((sent ++ it.0) ++ it.1) new =
+      let all : Holds answers ((sent ++ it.0) ++ it.1) new =
       all_exchanged arrivals (sent ++ it.0) it.1 it.2 new it.4 first in
-      subst (λ r. Holds finds r new) (append_assoc sent it.0 it.1 ∙ ap (λ l. sent ++ l) (sym it.5)) all
+      subst (λ r. Holds answers r new) (append_assoc sent it.0 it.1 ∙ ap (λ l. sent ++ l) (sym it.5)) all
 
-  begun_holds : Holds finds [] fresh
+  begun_holds : Holds answers [] fresh
   begun_holds = record {
     in_step = record {
       distinct = tt;
@@ -41,11 +41,11 @@ module _ (finds : List ℕ → CheckOutcome → Type 0) where
     unbegun = λ is_fresh. (refl, λ uri. refl);
   }
 
-  pub stay_in_step : SessionsStayInStep finds
+  pub stay_in_step : SessionsStayInStep answers
   stay_in_step arrivals replies session it =
       (all_exchanged arrivals [] replies fresh session it begun_holds).in_step
 
-  pub go_on : SessionsGoOn finds
+  pub go_on : SessionsGoOn answers
   go_on [] later old new replies it = ([], replies, old, (refl, refl), it, refl)
   go_on (arrival ∷ first) later old new replies it =
       let rest = go_on first later it.2 new it.1 it.4 in (

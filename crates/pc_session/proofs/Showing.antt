@@ -5,7 +5,7 @@ use Rattle.std.proofs.Common.{◌≡◌, ℕ, Bool, true, false, cond, List, [],
 use Rattle.std.proofs.Common.{ap, ◌∙◌, subst, inl, inr, append_assoc, append-nil, true≢false, not, arith}
 use Rattle.std.proofs.lemmas.List.Sums.{fold-append}
 use Rattle.serde_json.specs.Data.{Data, null}
-use Rattle.pc_documents.specs.declared.checker.CheckOutcome.{CheckOutcome}
+use Rattle.pc_documents.specs.CheckerAnswers.{CheckerAnswer}
 use Rattle.pc_documents.specs.Agreed.{Agreed}
 use Rattle.pc_documents.specs.Checked.{IsChecked, is_sent}
 use Rattle.pc_documents.specs.Diagnostics.{unknown_data}
@@ -69,9 +69,9 @@ pub locate_passes : (message id : Data) (old : State) (reply : Data) → IsLocat
 locate_passes message id old reply (inl it) uri = subst (λ r. Passes uri (r ∷ [])) (sym it.replied) (λ last. refl)
 locate_passes message id old reply (inr it) uri = subst (λ r. Passes uri (r ∷ [])) (sym it.1) (λ last. refl)
 
-module _ (finds : List ℕ → CheckOutcome → Type 0) where
+module _ (answers : List ℕ → CheckerAnswer → Type 0) where
   pub shown_more : (agreed : Agreed) (sent replies : List Data) (document : OpenDocument) → Passes document.uri replies
-      → IsShown finds agreed sent document → IsShown finds agreed (sent ++ replies) document
+      → IsShown answers agreed sent document → IsShown answers agreed (sent ++ replies) document
   shown_more agreed sent replies document passes (inl shows) = inl (record {
     diagnostics = shows.diagnostics;
     is_checked = shows.is_checked;
@@ -89,12 +89,12 @@ module _ (finds : List ℕ → CheckOutcome → Type 0) where
 
   -- the session is in step with what was sent; before it began nothing was sent of documents, and none is open
   pub record Holds (sent : List Data) (session : State) : Type 0 where
-    pub in_step : IsInStep finds sent session
+    pub in_step : IsInStep answers sent session
     pub unbegun : session.stage ≡ Fresh → (session.documents ≡ []) × ((uri : List ℕ) → last_publication uri sent ≡ None)
 
   pub all_more : (agreed : Agreed) (sent replies : List Data) (documents : List OpenDocument)
-      → ((uri : List ℕ) → Passes uri replies) → AllByRecursion (IsShownWhereSent finds agreed sent) documents
-      → AllByRecursion (IsShownWhereSent finds agreed (sent ++ replies)) documents
+      → ((uri : List ℕ) → Passes uri replies) → AllByRecursion (IsShownWhereSent answers agreed sent) documents
+      → AllByRecursion (IsShownWhereSent answers agreed (sent ++ replies)) documents
   all_more agreed sent replies [] passes all = tt
   all_more agreed sent replies (d ∷ ds) passes all = (
     λ s. shown_more agreed sent replies d (passes d.uri) (all.0 s),
@@ -148,9 +148,9 @@ module _ (finds : List ℕ → CheckOutcome → Type 0) where
       distinct = distinct_with document old.documents h.in_step.distinct;
       shown =
           let same_replies : sent ++ replies ≡ sent = ap (λ r. sent ++ r) none ∙ append-nil sent in
-          all_with (IsShownWhereSent finds old.agreed sent) (IsShownWhereSent finds old.agreed (sent ++ replies))
+          all_with (IsShownWhereSent answers old.agreed sent) (IsShownWhereSent answers old.agreed (sent ++ replies))
           document old.documents h.in_step.distinct (λ s. absurd (true≢false (sym s ∙ unsent)))
-          (λ d apart shown. subst (λ r. IsShownWhereSent finds old.agreed r d) (sym same_replies) shown)
+          (λ d apart shown. subst (λ r. IsShownWhereSent answers old.agreed r d) (sym same_replies) shown)
           h.in_step.shown;
       cleared = λ uri closed.
           let passes : Passes uri replies = subst (λ r. Passes uri r) (sym none) (λ last. refl) in
@@ -165,7 +165,7 @@ module _ (finds : List ℕ → CheckOutcome → Type 0) where
 
   -- a document is kept, and one list is sent, of it
   pub kept_some : (sent diagnostics : List Data) (document : OpenDocument) (old : State)
-      → IsChecked finds old.agreed document.text diagnostics → is_sent old.agreed document ≡ true
+      → IsChecked answers old.agreed document.text diagnostics → is_sent old.agreed document ≡ true
       → old.stage ≡ Running → Holds sent old
       → Holds (sent ++ publish_data document.uri document.version diagnostics ∷ [])
       (with_documents (with_document document old.documents) old)
@@ -176,8 +176,8 @@ module _ (finds : List ℕ → CheckOutcome → Type 0) where
       record {
         in_step = record {
           distinct = distinct_with document old.documents h.in_step.distinct;
-          shown = all_with (IsShownWhereSent finds old.agreed sent)
-              (IsShownWhereSent finds old.agreed (sent ++ list ∷ [])) document old.documents h.in_step.distinct
+          shown = all_with (IsShownWhereSent answers old.agreed sent)
+              (IsShownWhereSent answers old.agreed (sent ++ list ∷ [])) document old.documents h.in_step.distinct
               (λ s. inl (record {
                 diagnostics = diagnostics;
                 is_checked = checked;
@@ -196,10 +196,10 @@ module _ (finds : List ℕ → CheckOutcome → Type 0) where
       }
 
   pub kept : (sent replies : List Data) (document : OpenDocument) (old new : State)
-      → IsKept finds document old replies new → old.stage ≡ Running → Holds sent old → Holds (sent ++ replies) new
+      → IsKept answers document old replies new → old.stage ≡ Running → Holds sent old → Holds (sent ++ replies) new
   kept sent replies document old new it running h =
       let After : State = with_documents (with_document document old.documents) old in
-      let M = λ (t : Bool). is_sent old.agreed document ≡ t → IsSentWhere finds old.agreed t document replies
+      let M = λ (t : Bool). is_sent old.agreed document ≡ t → IsSentWhere answers old.agreed t document replies
       → Holds (sent ++ replies) After in
       subst (λ s. Holds (sent ++ replies) s) (sym it.new_is) (elim (is_sent old.agreed document) as M [
         | true ↦ λ e list. subst (λ r. Holds (sent ++ r) After) (sym list.are)
@@ -216,9 +216,9 @@ module _ (finds : List ℕ → CheckOutcome → Type 0) where
       record {
         in_step = record {
           distinct = distinct_without uri old.documents h.in_step.distinct;
-          shown = all_without (IsShownWhereSent finds old.agreed sent) (IsShownWhereSent finds old.agreed (sent ++ []))
+          shown = all_without (IsShownWhereSent answers old.agreed sent) (IsShownWhereSent answers old.agreed (sent ++ []))
               uri old.documents h.in_step.distinct
-              (λ d apart shown. subst (λ r. IsShownWhereSent finds old.agreed r d) (sym (append-nil sent)) shown)
+              (λ d apart shown. subst (λ r. IsShownWhereSent answers old.agreed r d) (sym (append-nil sent)) shown)
               h.in_step.shown;
           cleared = λ u closed. inl (quiet_last u);
           pulled = λ pulled u. quiet_last u;
@@ -234,8 +234,8 @@ module _ (finds : List ℕ → CheckOutcome → Type 0) where
       record {
         in_step = record {
           distinct = distinct_without uri old.documents h.in_step.distinct;
-          shown = all_without (IsShownWhereSent finds old.agreed sent)
-              (IsShownWhereSent finds old.agreed (sent ++ list ∷ [])) uri old.documents h.in_step.distinct
+          shown = all_without (IsShownWhereSent answers old.agreed sent)
+              (IsShownWhereSent answers old.agreed (sent ++ list ∷ [])) uri old.documents h.in_step.distinct
               (λ d apart shown s. shown_more old.agreed sent (list ∷ []) d
               (other_passes d.uri uri None [] (flip d.uri uri apart)) (shown s))
               h.in_step.shown;
@@ -268,7 +268,7 @@ module _ (finds : List ℕ → CheckOutcome → Type 0) where
   -- no text is known
   pub forgotten_shown : (agreed : Agreed) (sent replies : List Data) (documents : List OpenDocument)
       → AllByRecursion (IsTold (is_sent agreed) replies) documents
-      → AllByRecursion (IsShownWhereSent finds agreed (sent ++ replies)) (map forgotten documents)
+      → AllByRecursion (IsShownWhereSent answers agreed (sent ++ replies)) (map forgotten documents)
   forgotten_shown agreed sent replies [] all = tt
   forgotten_shown agreed sent replies (d ∷ ds) all = (
     λ s. inl (record {
@@ -333,7 +333,7 @@ module _ (finds : List ℕ → CheckOutcome → Type 0) where
   too_long sent replies old new it h = unreadable TooLong sent replies old new it h
 
   pub lost_shown : (agreed : Agreed) (sent : List Data) (documents : List OpenDocument)
-      → AllByRecursion (IsShownWhereSent finds agreed (sent ++ lost_data ∷ [])) (map forgotten documents)
+      → AllByRecursion (IsShownWhereSent answers agreed (sent ++ lost_data ∷ [])) (map forgotten documents)
   lost_shown agreed sent [] = tt
   lost_shown agreed sent (d ∷ ds) = (
     λ s. inr (refl, record { earlier = sent; later = []; split = refl; silent = refl }),
@@ -369,20 +369,20 @@ module _ (finds : List ℕ → CheckOutcome → Type 0) where
       record {
         in_step = record {
           distinct = h.in_step.distinct;
-          shown = subst (λ ds. AllByRecursion (IsShownWhereSent finds agreed (sent ++ reply ∷ [])) ds) (sym was.0) tt;
+          shown = subst (λ ds. AllByRecursion (IsShownWhereSent answers agreed (sent ++ reply ∷ [])) ds) (sym was.0) tt;
           cleared = λ uri closed. inl (none uri);
           pulled = λ pulls uri. none uri;
         };
         unbegun = λ e. absurd (running_fresh e);
       }
 
-  pub pull_passes : (message id : Data) (old : State) (reply : Data) → IsPulled finds message id old reply
+  pub pull_passes : (message id : Data) (old : State) (reply : Data) → IsPulled answers message id old reply
       → (uri : List ℕ) → Passes uri (reply ∷ [])
   pull_passes message id old reply (inl it) uri =
       subst (λ r. Passes uri (r ∷ [])) (sym it.replied) (λ last. refl)
   pull_passes message id old reply (inr it) uri = subst (λ r. Passes uri (r ∷ [])) (sym it.1) (λ last. refl)
 
-  pub hover_passes : (message id : Data) (old : State) (reply : Data) → IsHovered finds message id old reply
+  pub hover_passes : (message id : Data) (old : State) (reply : Data) → IsHovered answers message id old reply
       → (uri : List ℕ) → Passes uri (reply ∷ [])
   hover_passes message id old reply (inl it) uri =
       subst (λ r. Passes uri (r ∷ [])) (sym it.replied) (λ last. refl)

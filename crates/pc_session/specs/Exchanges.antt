@@ -4,7 +4,7 @@ use Rattle.std.specs.Prelude.{◌≡◌, ◌⊎◌, ℕ, Bool, true, false, List
 use Rattle.serde_json.specs.Data.{Data}
 use Rattle.pc_wire.specs.Frames.{IsShort, IsLong}
 use Rattle.pc_documents.specs.declared.checker.CheckOutcome.{CheckOutcome}
-use Rattle.pc_documents.specs.Said.{SayTheSame}
+use Rattle.pc_documents.specs.CheckerAnswers.{CheckerAnswer, Agree}
 use Rattle.pc_session.specs.declared.replies.ErrorCode.TheVariants.{TooLong}
 use Rattle.pc_session.specs.Sessions.{IsTurn, IsUnreadable, Step, forgot}
 use Rattle.pc_session.specs.Shown.{lost_data, IsInStep}
@@ -15,11 +15,11 @@ pub record Arrival : Type 0 where
   pub message : List ℕ
   pub lost : Bool
 
-module _ (finds : List ℕ → CheckOutcome → Type 0) where
+module _ (answers : List ℕ → CheckerAnswer → Type 0) where
   -- what is replied to a message for which there is memory, and the session after it: that of a step, or the refusal of
   -- a message that is too long
   abbrev pub IsReplied : List ℕ → State → List Data → State → Type 0
-  IsReplied message old replies new = (IsShort message × Step finds old message replies new)
+  IsReplied message old replies new = (IsShort message × Step answers old message replies new)
       ⊎ (IsLong message × IsUnreadable TooLong old replies new)
 
   -- what is replied to a message, and the session after it; where it was lost the log is told, and no text is known
@@ -34,14 +34,14 @@ module _ (finds : List ℕ → CheckOutcome → Type 0) where
       × Exchange arrival.lost arrival.message old first between × Exchanges between arrivals rest new
       × (replies ≡ first ++ rest)
 
-  -- the same is said of a text, however often it is checked
+  -- answers about a text do not contradict each other, however often it is checked
   abbrev pub IsDetermined : Type 0
-  IsDetermined = (text : List ℕ) (one other : CheckOutcome) → finds text one → finds text other → SayTheSame one other
+  IsDetermined = (text : List ℕ) (one other : CheckerAnswer) → answers text one → answers text other → Agree one other
 
   -- after any messages from a fresh session, what was sent is in step with the session
   abbrev pub SessionsStayInStep : Type 0
   SessionsStayInStep = (arrivals : List Arrival) (replies : List Data) (session : State)
-      → Exchanges fresh arrivals replies session → IsInStep finds replies session
+      → Exchanges fresh arrivals replies session → IsInStep answers replies session
 
   -- two sessions over the same messages write the same replies, and come to the same state
   abbrev pub RepliesAreDetermined : Type 0

@@ -1,17 +1,17 @@
 -- Diagnostics that are published for a text. Own rule of the server.
 use Rattle.std.specs.Prelude.{◌≡◌, ℕ, Bool, true, false, List, [], ◌∷◌}
 use Rattle.serde_json.specs.Data.{Data}
-use Rattle.pc_documents.specs.declared.checker.CheckOutcome.{CheckOutcome}
+use Rattle.pc_documents.specs.CheckerAnswers.{CheckerAnswer}
 use Rattle.pc_documents.specs.Agreed.{Agreed}
 use Rattle.pc_documents.specs.Checked.{IsChecked, is_sent}
 use Rattle.pc_documents.specs.Documents.{OpenDocument}
 use Rattle.pc_session.specs.Replies.{publish_data}
 
-module _ (finds : List ℕ → CheckOutcome → Type 0) (agreed : Agreed) where
+module _ (answers : List ℕ → CheckerAnswer → Type 0) (agreed : Agreed) where
   -- one notification is sent, of the diagnostics of the document's text
   pub record IsSentOf (document : OpenDocument) (replies : List Data) : Type 0 where
     pub diagnostics : List Data
-    pub is_checked : IsChecked finds agreed document.text diagnostics
+    pub is_checked : IsChecked answers agreed document.text diagnostics
     pub are : replies ≡ publish_data document.uri document.version diagnostics ∷ []
 
   -- one notification is sent, or nothing is

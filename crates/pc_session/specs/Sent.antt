@@ -5,7 +5,7 @@ use Rattle.serde_json.specs.Data.{Data}
 use Rattle.serde_json.specs.Read.{read}
 use Rattle.serde_json.specs.Written.{has_float, compact_text}
 use Rattle.pc_wire.specs.Frames.{frame}
-use Rattle.pc_documents.specs.declared.checker.CheckOutcome.{CheckOutcome}
+use Rattle.pc_documents.specs.CheckerAnswers.{CheckerAnswer}
 use Rattle.pc_session.specs.declared.replies.ErrorCode.TheVariants.{TooLong}
 use Rattle.pc_session.specs.Sessions.{Step, IsUnreadable}
 use Rattle.pc_session.specs.States.{State}
@@ -22,10 +22,10 @@ pub record AreSent (replies : List Data) (bytes : List ℕ) : Type 0 where
   pub framed : bytes ≡ flat_map frame texts
 
 -- the bytes are the frames of the replies to a message, and this is the session after it
-pub record SendsStep (finds : List ℕ → CheckOutcome → Type 0) (old : State) (message bytes : List ℕ) (new : State)
+pub record SendsStep (answers : List ℕ → CheckerAnswer → Type 0) (old : State) (message bytes : List ℕ) (new : State)
     : Type 0 where
   pub replies : List Data
-  pub step : Step finds old message replies new
+  pub step : Step answers old message replies new
   pub are_sent : AreSent replies bytes
 
 -- the bytes are the frames of the replies to a message that is too long, and this is the session after it

@@ -6,7 +6,7 @@ use Rattle.serde_json.specs.Data.{Data, null, array, no_items}
 use Rattle.serde_json.specs.Find.{get}
 use Rattle.serde_json.specs.Read.{read}
 use Rattle.pc_position.specs.declared.positions.Position.{Position}
-use Rattle.pc_documents.specs.declared.checker.CheckOutcome.{CheckOutcome}
+use Rattle.pc_documents.specs.CheckerAnswers.{CheckerAnswer}
 use Rattle.pc_documents.specs.Checked.{IsCheckedAs, is_sent}
 use Rattle.pc_documents.specs.Diagnostics.{unknown_data}
 use Rattle.pc_documents.specs.Documents.{document_at, is_open, with_document, without_document, forgotten, OpenDocument}
@@ -192,10 +192,10 @@ IsLocated message id old reply = IsLocatedOf message id old reply
     ⊎ (((named_document message old ≡ None) ⊎ (position_in message ≡ None))
     × (reply ≡ refusal_of InvalidParams id))
 
-module _ (finds : List ℕ → CheckOutcome → Type 0) where
+module _ (answers : List ℕ → CheckerAnswer → Type 0) where
   -- this is the document of its address from now on, and its diagnostics are published: nothing else changes
   pub record IsKept (document : OpenDocument) (old : State) (replies : List Data) (new : State) : Type 0 where
-    pub published : IsPublished finds old.agreed document replies
+    pub published : IsPublished answers old.agreed document replies
     pub new_is : new ≡ with_documents (with_document document old.documents) old
 
   -- a document is opened, with the text that the message gives
@@ -227,7 +227,7 @@ module _ (finds : List ℕ → CheckOutcome → Type 0) where
     pub document : OpenDocument
     pub named : named_document message old ≡ Some document
     pub diagnostics : List Data
-    pub is_checked : IsCheckedAs finds old.agreed document.python document.text diagnostics
+    pub is_checked : IsCheckedAs answers old.agreed document.python document.text diagnostics
     pub replied : reply ≡ result_data id (full_data diagnostics)
 
   -- the reply to a pull: the diagnostics of the document, or an error where the message names none that is open
@@ -242,7 +242,7 @@ module _ (finds : List ℕ → CheckOutcome → Type 0) where
     pub position : Position
     pub placed : position_in message ≡ Some position
     pub told : List ℕ
-    pub is_told : IsToldAs finds document.python document.text position old.agreed told
+    pub is_told : IsToldAs answers document.python document.text position old.agreed told
     pub replied : reply ≡ result_data id (hover_data told)
 
   -- the reply to `hover`: what is said at the position, or an error where the message names no open document or no

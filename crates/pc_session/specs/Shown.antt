@@ -4,7 +4,7 @@ use Rattle.std.specs.Prelude.{◌≡◌, ◌⊎◌, ◌&&◌, ℕ, Bool, true, f
 use Rattle.std.specs.Prelude.{Some, option_map, unwrap_or, if◌then◌else◌}
 use Rattle.serde_json.specs.Data.{Data, number, string, object, unsigned, no_members, member}
 use Rattle.serde_json.specs.Find.{get}
-use Rattle.pc_documents.specs.declared.checker.CheckOutcome.{CheckOutcome}
+use Rattle.pc_documents.specs.CheckerAnswers.{CheckerAnswer}
 use Rattle.pc_documents.specs.Agreed.{Agreed}
 use Rattle.pc_documents.specs.Checked.{IsChecked, is_sent}
 use Rattle.pc_documents.specs.Documents.{is_open, OpenDocument}
@@ -53,11 +53,11 @@ abbrev pub IsCleared : List ℕ → List Data → Type 0
 IsCleared uri sent = (last_publication uri sent ≡ None)
     ⊎ (last_publication uri sent ≡ Some (publish_data uri None []))
 
-module _ (finds : List ℕ → CheckOutcome → Type 0) where
+module _ (answers : List ℕ → CheckerAnswer → Type 0) where
   -- the last publication for a document is that of the diagnostics of its text, with its version
   pub record ShowsText (agreed : Agreed) (sent : List Data) (document : OpenDocument) : Type 0 where
     pub diagnostics : List Data
-    pub is_checked : IsChecked finds agreed document.text diagnostics
+    pub is_checked : IsChecked answers agreed document.text diagnostics
     pub last : last_publication document.uri sent ≡ Some (publish_data document.uri document.version diagnostics)
 
   -- the last publication for a document is that of its text and version; or its text is not known since a message was

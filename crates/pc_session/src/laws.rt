@@ -9,15 +9,15 @@ use pc_documents::Checker;
 /// version, unless a message was lost since for want of memory, as the log was told; the last one for a document that is
 /// not open has no diagnostics; and a client that pulls diagnostics was sent none.
 pub fn sessions_stay_in_step<C: Checker>()
-    ensures { (checker : C) → SessionsStayInStep (C.finds checker) }
+    ensures { (checker : C) → SessionsStayInStep (C.answers checker) }
 {}
 
 /// The law that over a checker that always says the same of a text the replies to messages are determined.
 pub fn replies_are_determined<C: Checker>()
-    ensures { (checker : C) → IsDetermined (C.finds checker) → RepliesAreDetermined (C.finds checker) }
+    ensures { (checker : C) → IsDetermined (C.answers checker) → RepliesAreDetermined (C.answers checker) }
 {}
 
 /// The law that the replies to messages begin with the replies to the first of them.
 pub fn sessions_go_on<C: Checker>()
-    ensures { (checker : C) → SessionsGoOn (C.finds checker) }
+    ensures { (checker : C) → SessionsGoOn (C.answers checker) }
 {}

@@ -59,7 +59,7 @@ pub(crate) fn keep_document<C: Checker>(
     alloc: Global,
     document: Document,
 ) -> Result<Answer, OutOfMemory>
-    ensures { IfOk result (λ a. IsKept (C.finds checker.now) (opened_of document)
+    ensures { IfOk result (λ a. IsKept (C.answers checker.now) (opened_of document)
         (state_of session.now) (map view a.replies.items) (after a.change (state_of session.now))) }
 {
     let replies = published(checker, alloc, &session.settings, &document)?;
@@ -76,7 +76,7 @@ fn opened<C: Checker>(
     alloc: Global,
     message: &Value,
 ) -> Result<Answer, OutOfMemory>
-    ensures { IfOk result (λ a. OnOpen (C.finds checker.now) (view message.now) (state_of session.now)
+    ensures { IfOk result (λ a. OnOpen (C.answers checker.now) (view message.now) (state_of session.now)
         (map view a.replies.items) (after a.change (state_of session.now))) }
 {
     match uri_in(message) {
@@ -129,7 +129,7 @@ fn unchanged<C: Checker>(
     message: &Value,
 ) -> Result<Answer, OutOfMemory>
     requires { named_document (view message.now) (state_of session.now) ≡ None }
-    ensures { IfOk result (λ a. OnChange (C.finds checker.now) (view message.now) (state_of session.now)
+    ensures { IfOk result (λ a. OnChange (C.answers checker.now) (view message.now) (state_of session.now)
         (map view a.replies.items) (after a.change (state_of session.now))) }
 {
     let _ = checker;
@@ -151,7 +151,7 @@ fn changed<C: Checker>(
     alloc: Global,
     message: &Value,
 ) -> Result<Answer, OutOfMemory>
-    ensures { IfOk result (λ a. OnChange (C.finds checker.now) (view message.now) (state_of session.now)
+    ensures { IfOk result (λ a. OnChange (C.answers checker.now) (view message.now) (state_of session.now)
         (map view a.replies.items) (after a.change (state_of session.now))) }
 {
     let Some(document) = named(session, message) else {
@@ -219,7 +219,7 @@ fn noticed<C: Checker>(
     method: LspMethod,
     message: &Value,
 ) -> Result<Answer, OutOfMemory>
-    ensures { IfOk result (λ a. OnNotice (C.finds checker.now) method (view message.now)
+    ensures { IfOk result (λ a. OnNotice (C.answers checker.now) method (view message.now)
         (state_of session.now) (map view a.replies.items) (after a.change (state_of session.now))) }
 {
     match method {
@@ -248,7 +248,7 @@ fn staged<C: Checker>(
     method: LspMethod,
     message: &Value,
 ) -> Result<Answer, OutOfMemory>
-    ensures { IfOk result (λ a. OnStage (C.finds checker.now) session.now.stage method (view message.now)
+    ensures { IfOk result (λ a. OnStage (C.answers checker.now) session.now.stage method (view message.now)
         (state_of session.now) (map view a.replies.items) (after a.change (state_of session.now))) }
 {
     match session.stage {
@@ -265,7 +265,7 @@ pub(crate) fn notified<C: Checker>(
     method: LspMethod,
     message: &Value,
 ) -> Result<Answer, OutOfMemory>
-    ensures { IfOk result (λ a. OnNotification (C.finds checker.now) method session.now.stage (view message.now)
+    ensures { IfOk result (λ a. OnNotification (C.answers checker.now) method session.now.stage (view message.now)
         (state_of session.now) (map view a.replies.items) (after a.change (state_of session.now))) }
 {
     match method {

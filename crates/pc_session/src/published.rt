@@ -19,7 +19,7 @@ pub(crate) fn published<C: Checker>(
     settings: &Settings,
     document: &Document,
 ) -> Result<Vec<Value>, OutOfMemory>
-    ensures { IfOk result (λ v. IsPublished (C.finds checker.now) (agreed_of settings.now) (opened_of document.now)
+    ensures { IfOk result (λ v. IsPublished (C.answers checker.now) (agreed_of settings.now) (opened_of document.now)
         (map view v.items)) }
 {
     if !is_sent(settings, document) {

@@ -54,7 +54,7 @@ fn hovered<C: Checker>(
     id: &Value,
     message: &Value,
 ) -> Result<Value, OutOfMemory>
-    ensures { IfOk result (λ v. IsHovered (C.finds checker.now) (view message.now) (view id.now)
+    ensures { IfOk result (λ v. IsHovered (C.answers checker.now) (view message.now) (view id.now)
         (state_of session.now) (view v)) }
 {
     let Some(document) = named(session, message) else {
@@ -79,7 +79,7 @@ fn pulled<C: Checker>(
     id: &Value,
     message: &Value,
 ) -> Result<Value, OutOfMemory>
-    ensures { IfOk result (λ v. IsPulled (C.finds checker.now) (view message.now) (view id.now)
+    ensures { IfOk result (λ v. IsPulled (C.answers checker.now) (view message.now) (view id.now)
         (state_of session.now) (view v)) }
 {
     let Some(document) = named(session, message) else {
@@ -143,7 +143,7 @@ fn requested<C: Checker>(
     method: LspMethod,
     message: &Value,
 ) -> Result<Answer, OutOfMemory>
-    ensures { IfOk result (λ a. OnRunning (C.finds checker.now) method (view id.now) (view message.now)
+    ensures { IfOk result (λ a. OnRunning (C.answers checker.now) method (view id.now) (view message.now)
         (state_of session.now) (map view a.replies.items) (after a.change (state_of session.now))) }
 {
     match method {
@@ -214,7 +214,7 @@ pub(crate) fn request<C: Checker>(
     method: LspMethod,
     message: &Value,
 ) -> Result<Answer, OutOfMemory>
-    ensures { IfOk result (λ a. OnRequest (C.finds checker.now) session.now.stage method (view id.now)
+    ensures { IfOk result (λ a. OnRequest (C.answers checker.now) session.now.stage method (view id.now)
         (view message.now) (state_of session.now) (map view a.replies.items) (after a.change (state_of session.now))) }
 {
     match session.stage {

@@ -126,7 +126,7 @@ fn with_method<C: Checker>(
     id: Option<&Value>,
     message: &Value,
 ) -> Result<Answer, OutOfMemory>
-    ensures { IfOk result (λ a. OnMethod (C.finds checker.now) method (option_map (λ v. view v.now) id.entry)
+    ensures { IfOk result (λ a. OnMethod (C.answers checker.now) method (option_map (λ v. view v.now) id.entry)
         (view message.now) (state_of session.now) (map view a.replies.items) (after a.change (state_of session.now))) }
 {
     match id {
@@ -150,7 +150,7 @@ fn answered<C: Checker>(
     alloc: Global,
     message: &Value,
 ) -> Result<Answer, OutOfMemory>
-    ensures { IfOk result (λ a. OnMessage (C.finds checker.now) (view message.now)
+    ensures { IfOk result (λ a. OnMessage (C.answers checker.now) (view message.now)
         (state_of session.now) (map view a.replies.items) (after a.change (state_of session.now))) }
 {
     let id = message.get("id");
@@ -174,7 +174,7 @@ fn unread<C: Checker>(
     message: &[u8],
 ) -> Result<Answer, OutOfMemory>
     requires { IsUtf8 message.now → read message.now ≡ None }
-    ensures { IfOk result (λ a. IsNotRead (C.finds checker.now) message.now (state_of session.now)
+    ensures { IfOk result (λ a. IsNotRead (C.answers checker.now) message.now (state_of session.now)
         (map view a.replies.items) (after a.change (state_of session.now))) }
 {
     match spoiled(session, alloc, message)? {
@@ -196,7 +196,7 @@ fn read<C: Checker>(
     alloc: Global,
     message: &[u8],
 ) -> Result<Answer, OutOfMemory>
-    ensures { IfOk result (λ a. Step (C.finds checker.now) (state_of session.now) message.now
+    ensures { IfOk result (λ a. Step (C.answers checker.now) (state_of session.now) message.now
         (map view a.replies.items) (after a.change (state_of session.now))) }
 {
     match Value::from_slice(alloc, message) {
@@ -237,7 +237,7 @@ pub fn step<C: Checker>(
     alloc: Global,
     message: &[u8],
 ) -> Result<Vec<u8>, OutOfMemory>
-    ensures step { IfOk result (λ bytes. SendsStep (C.finds checker.now) (state_of session.old) message.now bytes.items
+    ensures step { IfOk result (λ bytes. SendsStep (C.answers checker.now) (state_of session.old) message.now bytes.items
         (state_of session.new)) }
     ensures unchanged { OnErr result (state_of session.new ≡ state_of session.old) }
 {

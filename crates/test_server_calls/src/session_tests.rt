@@ -13,7 +13,7 @@ struct Refusing;
 impl Checker for Refusing {
     ghost use Rattle.std.specs.Prelude.{⊤};
 
-    ghost finds = { λ _ text found. ⊤ };
+    ghost answers = { λ _ text found. ⊤ };
 
     fn find(&self, alloc: Global, text: &str) -> Result<CheckOutcome, OutOfMemory> {
         let _ = alloc;

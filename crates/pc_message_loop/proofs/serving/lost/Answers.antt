@@ -5,5 +5,5 @@ use Rattle.pc_message_loop.proofs.serving.lost.Goals as goal
 
 pub returns-clause-begun : goal.returns-clause-begun
 returns-clause-begun g c =
-    on_err_weaker c.told.result (some_of_word (g.C.Checker.finds c.args.checker.now) g.W.Write.contents
+    on_err_weaker c.told.result (some_of_word (g.C.Checker.answers c.args.checker.now) g.W.Write.contents
     (state_of c.args.session.now) c.args.output.now c.told.new.output) c.told.ensures.begun

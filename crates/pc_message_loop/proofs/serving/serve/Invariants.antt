@@ -5,7 +5,7 @@ use Rattle.pc_message_loop.proofs.serving.serve.Given as goal
 
 abbrev pub invariant-messages : goal.invariant-messages
 invariant-messages g l = record {
-  served : IsServed (g.C.Checker.finds l.checker) g.R.Read.remaining g.W.Write.contents l.fn.input l.input l.fn.output
+  served : IsServed (g.C.Checker.answers l.checker) g.R.Read.remaining g.W.Write.contents l.fn.input l.input l.fn.output
       l.output (state_of l.session);
   going : ended_with l.session.stage ≡ None;
 }
