@@ -804,6 +804,11 @@ def want_in_form(want: Optional[Want], words: Tuple[str, ...]) -> Optional[Want]
     return Want(want.status, "", "") if words == ("--json",) else want._replace(first=want.first.split(" any-flow")[0] + " any-flow")
 
 
+def seconds_of(got: Got) -> float:
+    """Returns the seconds of a run."""
+    return got[3]
+
+
 def slowness_of(program: str) -> float:
     """Returns how many times slower than the stated machine this one is now."""
     return speed.slowness(lambda text: measured(program, (), text.encode())[3])
@@ -815,7 +820,7 @@ def tried(program: str, name: str, make: Make, tally: Tally, words: Tuple[str, .
     data = text if isinstance(text, bytes) else text.encode()
     del text
     want = want_in_form(want, words)
-    got, most = speed.fairest(lambda: measured(program, words, data), lambda got: got[3], tally.most_of(name),
+    got, most = speed.fairest(lambda: measured(program, words, data), seconds_of, tally.most_of(name),
                               lambda: tally.most_of(name, slowness_of(program)))
     status, first, last, seconds, peak = got
     in_form = name + FORMS[words]
