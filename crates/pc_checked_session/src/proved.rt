@@ -7,7 +7,7 @@ ghost use Rattle.pc_checked_session.specs.Found.{flow_type_texts, shown, said_by
 use pc_documents::{CheckOutcome, Checker, FlowTypes, ReportedFinding};
 use pc_message_loop::{ServingEnd, serve};
 use pc_source::{Counted, OutOfMemory};
-use pc_top::{CheckFault, Row, check};
+use pc_top::{Row, check};
 use std::alloc::{AllocError, Global};
 use std::io::{Read, Write};
 
@@ -64,11 +64,7 @@ impl Checker for Proved {
     fn find(&self, alloc: Global, text: &str) -> Result<CheckOutcome, OutOfMemory> {
         let report = match check(alloc, text.as_bytes()) {
             Ok(report) => report,
-            Err(CheckFault::Refused(refusal)) => return Ok(CheckOutcome::Refused(refusal)),
-            // No device is read or written here, so an allocation failed.
-            Err(CheckFault::OutOfMemory | CheckFault::Read | CheckFault::Write) => {
-                return Err(OutOfMemory::from(AllocError));
-            }
+            Err(fault) => return Ok(CheckOutcome::Refused(fault.refusal()?)),
         };
         Ok(CheckOutcome::Items(items_of(alloc, report.rows())?))
     }
