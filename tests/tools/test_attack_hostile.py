@@ -38,8 +38,10 @@ class Hostile(Case):
         self.assertEqual(set(hostile.KNOWN) - {*hostile.LONG, *hostile.UNIONS}, set())
 
     def test_large_unions_may_take_half(self) -> None:
-        tally = tool("attack.hostile").Tally(3.0)
-        self.assertEqual([tally.most_of(name) for name in ("only (", "or of two large unions")], [3.0, 1.5])
+        tally = tool("attack.hostile").Tally(1.5)
+        names = "only (", "or of two large unions"
+        self.assertEqual([tally.most_of(name) for name in names], [3.0, 1.5])
+        self.assertEqual([tally.most_of(name, 2.0) for name in names], [4.0, 2.0])
 
     def large(self, want: Any) -> str:
         """Returns a program that gives the expected answer, and takes more than 80 MiB."""

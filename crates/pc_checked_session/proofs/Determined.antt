@@ -1,5 +1,7 @@
--- The proved check always says the same of a text, so the replies to messages are determined.
-use Rattle.std.proofs.Common.{◌≡◌, ℕ, List, [], ◌∷◌, map, Option, None, Some, refl, sym, ap, ap₂, ◌∙◌}
+-- The proved check always says the same of a text, and shows the same types in it, so the replies to messages are
+-- determined.
+use Rattle.std.proofs.Common.{◌≡◌, ℕ, List, [], ◌∷◌, map, Option, None, Some, refl, sym, ap, ap₂, subst, inl, inr, arith}
+use Rattle.std.proofs.Common.{◌∙◌}
 use Rattle.std.specs.Prelude.{option_map}
 use Rattle.pc_front.proofs.BytesLaws.{no_refusal}
 use Rattle.pc_front.proofs.OneRefusal.{one_refusal}
@@ -8,13 +10,37 @@ use Rattle.pc_report.specs.declared.flow.FlowTexts.{FlowTexts}
 use Rattle.pc_report.specs.declared.report.Row.{Row}
 use Rattle.pc_report.specs.Report.{row_flow}
 use Rattle.pc_top.specs.OneReport.{RowSays, texts_of, said_by}
+use Rattle.pc_report.specs.declared.listing.TypeRow.{TypeRow}
+use Rattle.pc_report.specs.TypeListing.{RowContent, content_of}
+use Rattle.pc_top.specs.TypesOfBytes.{IsTypeAt}
 use Rattle.pc_top.proofs.OneReport.{one_report}
+use Rattle.pc_top.proofs.OneTypeAt.{one_type_at}
+use Rattle.pc_documents.specs.declared.checker.CheckOutcome.{CheckOutcome}
 use Rattle.pc_documents.specs.declared.checker.CheckOutcome.TheVariants.{Items, Refused}
+use Rattle.pc_documents.specs.CheckerAnswers.{outcome, type_shown}
 use Rattle.pc_documents.specs.declared.checker.ReportedFinding.{ReportedFinding}
 use Rattle.pc_session.specs.Exchanges.{IsDetermined, RepliesAreDetermined}
-use Rattle.pc_documents.specs.Said.{said_by as said_by_found}
+use Rattle.pc_documents.specs.Said.{said_by as said_by_found, SayTheSame}
 use Rattle.pc_session.proofs.Determined.{determined}
-use Rattle.pc_checked_session.specs.Found.{Said, shown, shown_flow, said_by_item, said_by_row, IsFoundIn}
+use Rattle.pc_checked_session.specs.Found.{Said, shown, shown_flow, said_by_item, said_by_row, fact_text, types_of_row}
+use Rattle.pc_checked_session.specs.Found.{IsFoundIn, IsOutcomeOf}
+
+some_inj : {A : Type 0} {x y : A} → Some x ≡ Some y → x ≡ y
+some_inj e = grind arith
+
+some_none : {A : Type 0} {x : A} → Some x ≡ None → ⊥
+some_none e = grind arith
+
+-- ---- types of rows
+
+-- rows with the same content have the same text
+row_texts : (row other : Option TypeRow) → option_map content_of row ≡ option_map content_of other
+    → option_map types_of_row row ≡ option_map types_of_row other
+row_texts None None e = refl
+row_texts None (Some s) e = absurd (some_none (sym e))
+row_texts (Some r) None e = absurd (some_none e)
+row_texts (Some r) (Some s) e =
+    ap (λ (c : RowContent). Some (fact_text c.fact)) (some_inj e)
 
 -- ---- rows
 
@@ -45,7 +71,8 @@ items_say : (items : List ReportedFinding) → map said_by_found items ≡ map p
 items_say [] = refl
 items_say (item ∷ items) = ap (λ xs. said_by_found item ∷ xs) (items_say items)
 
-say_the_same : IsDetermined IsFoundIn
+say_the_same : (text : List ℕ) (one other : CheckOutcome) → IsOutcomeOf text one → IsOutcomeOf text other
+    → SayTheSame one other
 say_the_same text (Items items) (Items others) a b =
     let rows : map said_by_row a.0 ≡ map said_by_row b.0 =
     rows_say a.0 ∙ (ap (map said_of) (one_report text a.0 b.0 a.1 b.1) ∙ sym (rows_say b.0)) in
@@ -55,5 +82,24 @@ say_the_same text (Items items) (Refused refusal) a b = no_refusal text a.1.whol
 say_the_same text (Refused refusal) (Items others) a b = no_refusal text b.1.whole refusal b.1.spelled a
 say_the_same text (Refused refusal) (Refused other) a b = one_refusal text refusal other a b
 
+-- ---- types
+
+same_type : (text : List ℕ) (byte place : ℕ) (one other : Option (List ℕ)) → IsFoundIn text (type_shown byte one)
+    → IsFoundIn text (type_shown place other) → byte ≡ place → one ≡ other
+same_type text byte place one other (inl a) (inl b) e =
+    let there : IsTypeAt text byte b.row = subst (λ (n : ℕ). IsTypeAt text n b.row) (sym e) b.is_there in
+    a.are ∙ (row_texts a.row b.row (one_type_at text byte a.row b.row a.is_there there) ∙ sym b.are)
+same_type text byte place one other (inl a) (inr b) e =
+    absurd (no_refusal text a.is_there.lists.whole b.refusal a.is_there.lists.spelled b.refused)
+same_type text byte place one other (inr a) (inl b) e =
+    absurd (no_refusal text b.is_there.lists.whole a.refusal b.is_there.lists.spelled a.refused)
+same_type text byte place one other (inr a) (inr b) e = a.none ∙ sym b.none
+
+all_agree : IsDetermined IsFoundIn
+all_agree text (outcome one) (outcome other) a b = say_the_same text one other a b
+all_agree text (outcome one) (type_shown byte other) a b = tt
+all_agree text (type_shown byte one) (outcome other) a b = tt
+all_agree text (type_shown byte one) (type_shown place other) a b = same_type text byte place one other a b
+
 pub replies_determined : RepliesAreDetermined IsFoundIn
-replies_determined = determined IsFoundIn say_the_same
+replies_determined = determined IsFoundIn all_agree

@@ -30,7 +30,7 @@ use Rattle.pc_documents.specs.Documents.{OpenDocument}
 use Rattle.pc_tree.specs.declared.code.Code.{Code}
 use Rattle.pc_tree.specs.declared.code.Finding.{Finding}
 use Rattle.pc_tree.specs.Code.{text_of}
-use Rattle.pc_checked_session.specs.Found.{Said, flow_type_texts, said_by_item, said_by_row, IsFoundIn}
+use Rattle.pc_checked_session.specs.Found.{Said, flow_type_texts, said_by_item, said_by_row, IsFoundIn, IsOutcomeOf}
 use Rattle.pc_checked_session.specs.Published.{row_message, row_data, AreOfText, AreOfDocument, PublishesWhere, IsPublishedOf}
 use Rattle.pc_session.specs.Notices.{IsNoticeOf}
 use Rattle.pc_session.proofs.Notices.{opened_is_kept, changed_is_kept}
@@ -72,7 +72,7 @@ module _ (agreed : Agreed) (text : List ℕ) where
   same_data items rows same =
       items_said items ∙ (ap (map (said_data agreed text)) same ∙ sym (rows_said rows))
 
-  of_found : (diagnostics : List Data) (found : CheckOutcome) → IsFoundIn text found
+  of_found : (diagnostics : List Data) (found : CheckOutcome) → IsOutcomeOf text found
       → diagnostics ≡ found_data agreed text found → AreOfText agreed text diagnostics
   of_found diagnostics (Items items) answers are =
       inl (record {

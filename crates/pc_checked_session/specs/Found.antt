@@ -1,7 +1,8 @@
--- The findings of the proved check in a text. Own rule of the server.
-use Rattle.std.specs.Prelude.{◌≡◌, ℕ, nat_lt, ◌||◌, Bool, not, List, length, Option, None, Some, string_bytes, map, option_map}
+-- The findings of the proved check in a text, and the types that it shows there. Own rule of the server.
+use Rattle.std.specs.Prelude.{◌≡◌, ◌⊎◌, ◌++◌, codes, ℕ, nat_lt, ◌||◌, Bool, not, List, length, Option, None, Some, string_bytes, map, option_map}
 use Rattle.std.specs.Prelude.{if◌then◌else◌}
 use Rattle.std.specs.Rc.{rc_str_bytes}
+use Rattle.pc_source.specs.declared.fault.Refusal.{Refusal}
 use Rattle.pc_tree.specs.declared.code.Finding.{Finding}
 use Rattle.pc_front.specs.Bytes.{IsRefusalOf}
 use Rattle.pc_report.specs.declared.flow.FlowTexts.{FlowTexts}
@@ -11,7 +12,11 @@ use Rattle.pc_documents.specs.declared.checker.FlowTypes.{FlowTypes}
 use Rattle.pc_documents.specs.declared.checker.ReportedFinding.{ReportedFinding}
 use Rattle.pc_documents.specs.declared.checker.CheckOutcome.{CheckOutcome}
 use Rattle.pc_documents.specs.declared.checker.CheckOutcome.TheVariants.{Items, Refused}
+use Rattle.pc_report.specs.declared.listing.TypeRow.{TypeRow}
+use Rattle.pc_report.specs.TypeListing.{TypeFact, fact_of}
+use Rattle.pc_documents.specs.CheckerAnswers.{CheckerAnswer, outcome, type_shown}
 use Rattle.pc_top.specs.Headline.{Headline}
+use Rattle.pc_top.specs.TypesOfBytes.{IsTypeAt}
 
 -- the content of a row: a finding, and the texts of the two types of its flow, if it has one
 pub record Said : Type 0 where
@@ -48,7 +53,38 @@ abbrev pub said_by_item : ReportedFinding → Said
 said_by_item item = record { finding = item.finding; flow = option_map flow_type_texts item.flow }
 
 -- the findings of a text: items with the content, in order, of rows for which the headline holds; or its refusal
-abbrev pub IsFoundIn : List ℕ → CheckOutcome → Type 0
-IsFoundIn text (Items items) =
+abbrev pub IsOutcomeOf : List ℕ → CheckOutcome → Type 0
+IsOutcomeOf text (Items items) =
     (rows : List Row) × Headline text rows × (map said_by_item items.items ≡ map said_by_row rows)
-IsFoundIn text (Refused refusal) = IsRefusalOf text refusal
+IsOutcomeOf text (Refused refusal) = IsRefusalOf text refusal
+
+-- the current type of a name, behind its declared one, if it is another
+abbrev pub current_text : Option (List ℕ) → List ℕ
+current_text None = codes ""
+current_text (Some current) = codes "  # here " ++ current
+
+-- the types of a fact as a text: of an expression its type; of a name its declared type and, if it is another, its
+-- current type
+abbrev pub fact_text : TypeFact → List ℕ
+fact_text fact = fact.type ++ current_text fact.current
+
+-- the types of a row as a text
+abbrev pub types_of_row : TypeRow → List ℕ
+types_of_row row = fact_text (fact_of row.entry)
+
+-- the type shown at a byte of a module's text: that of the smallest row around the byte in the listing of its types
+pub record IsTypeOf (text : List ℕ) (byte : ℕ) (shown : Option (List ℕ)) : Type 0 where
+  pub row : Option TypeRow
+  pub is_there : IsTypeAt text byte row
+  pub are : shown ≡ option_map types_of_row row
+
+-- no type is shown in a text that is refused
+pub record IsRefusedWithoutType (text : List ℕ) (shown : Option (List ℕ)) : Type 0 where
+  pub refusal : Refusal
+  pub refused : IsRefusalOf text refusal
+  pub none : shown ≡ None
+
+-- an answer about a text: its findings or its refusal, or the type that is shown at a byte
+abbrev pub IsFoundIn : List ℕ → CheckerAnswer → Type 0
+IsFoundIn text (outcome found) = IsOutcomeOf text found
+IsFoundIn text (type_shown byte shown) = IsTypeOf text byte shown ⊎ IsRefusedWithoutType text shown

@@ -1,13 +1,13 @@
 //! The proved check as the checker of a session, and the answering of messages over it.
 
-ghost use Rattle.std.specs.Prelude.{◌≡◌, IfOk, map, option_map};
+ghost use Rattle.std.specs.Prelude.{◌≡◌, IfOk, map, option_map, string_bytes};
 ghost use Rattle.pc_message_loop.specs.Runs.{OnEnd};
-ghost use Rattle.pc_checked_session.specs.Found.{flow_type_texts, shown, said_by_item, said_by_row, IsFoundIn};
+ghost use Rattle.pc_checked_session.specs.Found.{flow_type_texts, shown, said_by_item, said_by_row, types_of_row, IsFoundIn};
 
 use pc_documents::{CheckOutcome, Checker, FlowTypes, ReportedFinding};
 use pc_message_loop::{ServingEnd, serve};
 use pc_source::{Counted, OutOfMemory};
-use pc_top::{CheckFault, Row, check};
+use pc_top::{Row, TypeRow, check, type_at};
 use std::alloc::{AllocError, Global};
 use std::io::{Read, Write};
 
@@ -56,21 +56,46 @@ fn items_of(alloc: Global, rows: &[Row]) -> Result<Vec<ReportedFinding>, AllocEr
     Ok(items)
 }
 
+/// Returns the types of a row as a text: the type, and behind the declared type of a name its current one, if that is
+/// another.
+fn types_of_row(alloc: Global, row: &TypeRow) -> Result<String, AllocError>
+    ensures { IfOk result (λ s. string_bytes s ≡ types_of_row row.now) }
+{
+    let ty = row.entry.text.as_str();
+    match &row.entry.current {
+        None => String::from_str(alloc, ty),
+        Some(current) => {
+            let current = current.as_str();
+            format!(in alloc; "{ty}  # here {current}")
+        }
+    }
+}
+
 impl Checker for Proved {
     ghost use Rattle.pc_checked_session.specs.Found.{IsFoundIn};
 
-    ghost answers = { λ _ text found. IsFoundIn text found };
+    ghost answers = { λ _ text answer. IsFoundIn text answer };
 
     fn find(&self, alloc: Global, text: &str) -> Result<CheckOutcome, OutOfMemory> {
         let report = match check(alloc, text.as_bytes()) {
             Ok(report) => report,
-            Err(CheckFault::Refused(refusal)) => return Ok(CheckOutcome::Refused(refusal)),
-            // No device is read or written here, so an allocation failed.
-            Err(CheckFault::OutOfMemory | CheckFault::Read | CheckFault::Write) => {
-                return Err(OutOfMemory::from(AllocError));
-            }
+            Err(fault) => return Ok(CheckOutcome::Refused(fault.refusal()?)),
         };
         Ok(CheckOutcome::Items(items_of(alloc, report.rows())?))
+    }
+
+    fn type_at(&self, alloc: Global, text: &str, byte: usize) -> Result<Option<String>, OutOfMemory> {
+        let found = match type_at(alloc, text.as_bytes(), byte) {
+            Ok(found) => found,
+            Err(fault) => {
+                fault.refusal()?;
+                return Ok(None);
+            }
+        };
+        match found {
+            None => Ok(None),
+            Some(row) => Ok(Some(types_of_row(alloc, &row)?)),
+        }
     }
 }
 

@@ -7,4 +7,3 @@ pub mod ModuleTypes
 pub mod OneListing
 pub mod OneReport
 pub mod StreamBytes
-pub mod WithinBytes

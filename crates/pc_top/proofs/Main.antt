@@ -1,27 +1,18 @@
 -- The main theorem, of what the parts ensure.
-use Rattle.std.proofs.Common.{◌≡◌, ℕ, List, Contains, ◌↔◌, Result}
-use Rattle.std.specs.Prelude.{IfErr, IsErrAnd}
+use Rattle.std.proofs.Common.{ℕ, List, Contains, ◌↔◌}
 use Rattle.std.specs.List.{AllByRecursion}
-use Rattle.std.proofs.lemmas.Result.{err_from_is_err_and}
 use Rattle.pc_source.specs.declared.place.Place.{Place}
-use Rattle.pc_source.specs.declared.fault.Fault.{Fault}
-use Rattle.pc_source.specs.declared.fault.Fault.TheVariants as fault
-use Rattle.pc_source.specs.declared.fault.Refusal.{Refusal}
-use Rattle.pc_source.specs.Answers.{OnRefusal}
 use Rattle.pc_tree.specs.declared.code.Finding.{Finding}
 use Rattle.pc_tree.specs.Tree.{Module}
 use Rattle.pc_module_rules.specs.Modules.{IsFinding}
 use Rattle.pc_module_rules.proofs.LabelledModule.{every_module_has_a_labelling}
 use Rattle.pc_machine.specs.Runs.{Run, End, IsFaultyEnd}
 use Rattle.pc_sound.proofs.Modules.Soundness.{sound}
-use Rattle.pc_front.specs.Bytes.{IsModuleOf, IsRefusalOf}
+use Rattle.pc_front.specs.Bytes.{IsModuleOf}
 use Rattle.pc_report.specs.declared.report.Row.{Row}
 use Rattle.pc_report.specs.Report.{Lists, row_findings}
-use Rattle.pc_top.specs.Headline.{HasNoErrorRow, HasEvaluatedRow, Headline, IsExplainedRow, OnCheckFault}
-use Rattle.pc_top.specs.Headline.{check_fault_of}
+use Rattle.pc_top.specs.Headline.{HasNoErrorRow, HasEvaluatedRow, Headline, IsExplainedRow}
 use Rattle.pc_top.proofs.BesideErrors.{beside_errors}
-use Rattle.pc_top.specs.declared.fault.CheckFault.{CheckFault}
-use Rattle.pc_top.specs.declared.fault.CheckFault.TheVariants as check_fault
 use Rattle.pc_front.proofs.BytesLaws.{one_module}
 
 module _ (bytes : List ℕ) (whole : Module) where
@@ -58,14 +49,3 @@ module _ (bytes : List ℕ) (whole : Module) where
             sound_here rows listed;
         sound_beside_errors = beside_errors whole (row_findings rows) exact;
       }
-
--- a refusal of the bytes
-pub refused_bytes : (bytes : List ℕ) (f : Fault) → OnRefusal (IsRefusalOf bytes) f
-    → OnCheckFault (IsRefusalOf bytes) (check_fault_of f)
-refused_bytes bytes (fault.Refused r) h = h
-refused_bytes bytes fault.OutOfMemory h = tt
-
--- where memory failed there is no refusal
-pub no_refusal : {T : Type 0} (P : Refusal → Type 0) (r : Result T CheckFault)
-    → IsErrAnd r (λ f. f ≡ check_fault.OutOfMemory) → IfErr r (OnCheckFault P)
-no_refusal P r h = let p = err_from_is_err_and r h in rw (p.1, p.2) tt

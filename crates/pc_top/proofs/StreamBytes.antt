@@ -3,9 +3,13 @@ use Rattle.std.proofs.Common.{◌≡◌, ℕ, ◌+◌, ◌<◌, ◌≤◌, List,
 use Rattle.std.proofs.Common.{subst, inl, inr, arith, append-nil, length-append}
 use Rattle.std.specs.Io.KnownBytes.{Consumes, IsAtEnd}
 use Rattle.std.proofs.lemmas.Bool.{cases_lt}
+use Rattle.pc_source.specs.declared.fault.Fault.{Fault}
+use Rattle.pc_source.specs.declared.fault.Fault.TheVariants as fault
 use Rattle.pc_source.specs.declared.fault.Refusal.{Refusal}
 use Rattle.pc_source.specs.declared.fault.RefusalCode.{RefusalCode}
 use Rattle.pc_source.specs.declared.fault.RefusalCode.TheVariants.{S1, S2, S3}
+use Rattle.pc_source.specs.Answers.{OnRefusal}
+use Rattle.pc_source.specs.Within.{IsWithin}
 use Rattle.pc_source.specs.Text.{source_limit, IsText, IsSourceFault}
 use Rattle.pc_source.specs.declared.counted.Counted.{Counted}
 use Rattle.pc_source.specs.Taken.{TakesAll, TakesBeginning}
@@ -15,11 +19,9 @@ use Rattle.pc_report.specs.declared.report.Row.{Row}
 use Rattle.pc_report.specs.declared.writing.WriteFault.{WriteFault}
 use Rattle.pc_report.specs.declared.writing.WriteFault.TheVariants as write_fault
 use Rattle.pc_report.specs.Report.{errors_of, dynamic_count}
-use Rattle.pc_top.specs.Headline.{Headline, OnCheckFault}
+use Rattle.pc_top.specs.Headline.{Headline}
 use Rattle.pc_top.specs.Streaming.{AreBytesOf, IsRefusedStream, IsReported, IsBegun, IsWithinStream, WhenRefused}
-use Rattle.pc_top.specs.Streaming.{WhenWriteFails, most_read, report_bytes, write_checked}
-use Rattle.pc_top.specs.declared.fault.CheckFault.{CheckFault}
-use Rattle.pc_top.specs.declared.fault.CheckFault.TheVariants as check_fault
+use Rattle.pc_top.specs.Streaming.{WhenWriteFails, check_fault_of, most_read, report_bytes, write_checked}
 
 -- the bytes of a reader that gave some
 abbrev pub all_bytes : Option (List ℕ) → List ℕ → List ℕ
@@ -71,15 +73,14 @@ module _ (told left : Option (List ℕ)) (given : List ℕ) (consumed : Consumes
     | inr short ↦ subst (λ (l : List ℕ). IsRefusalOf l r) (sym (same short)) h
   ]
 
-  pub refused_stream : (e : CheckFault) → OnCheckFault (IsRefusalOf given) e → WhenRefused (IsRefusedStream told) e
-  refused_stream (check_fault.Refused r) h = record {
+  pub refused_stream : (e : Fault) → OnRefusal (IsRefusalOf given) e
+      → WhenRefused (IsRefusedStream told) (check_fault_of e)
+  refused_stream (fault.Refused r) h = record {
     bytes = all_bytes told given;
     given = are_all told given;
     refused = refused_all r h;
   }
-  refused_stream check_fault.OutOfMemory h = tt
-  refused_stream check_fault.Read h = tt
-  refused_stream check_fault.Write h = tt
+  refused_stream fault.OutOfMemory h = tt
 
   -- it stands within them, and within what was read
   within_all : length given ≤ most_read → (byte : ℕ) → byte ≤ length given → IsWithinStream told byte
@@ -90,12 +91,10 @@ module _ (told left : Option (List ℕ)) (given : List ℕ) (consumed : Consumes
     most = omega (arith, h, short);
   }
 
-  pub within_stream : length given ≤ most_read → (e : CheckFault) → OnCheckFault (λ r. r.byte ≤ length given) e
-      → WhenRefused (λ r. IsWithinStream told r.byte) e
-  within_stream short (check_fault.Refused r) h = within_all short r.byte h
-  within_stream short check_fault.OutOfMemory h = tt
-  within_stream short check_fault.Read h = tt
-  within_stream short check_fault.Write h = tt
+  pub within_stream : length given ≤ most_read → (e : Fault) → IsWithin (length given) e
+      → WhenRefused (λ r. IsWithinStream told r.byte) (check_fault_of e)
+  within_stream short (fault.Refused r) h = within_all short r.byte h
+  within_stream short fault.OutOfMemory h = tt
 
   -- and so is a report
   pub reported_all : (rows : List Row) → Headline given rows → Headline (all_bytes told given) rows

@@ -1,11 +1,8 @@
--- The statement of the main theorem: the guarantees of a report about the bytes, and of a refusal.
+-- The statement of the main theorem: the guarantees of a report about the bytes.
 use Rattle.std.specs.Prelude.{◌≡◌, ℕ, List, Contains, MatchOption}
 use Rattle.std.specs.Rc.{rc_str_bytes}
 use Rattle.std.specs.List.{AllByRecursion}
 use Rattle.pc_source.specs.declared.place.Place.{Place}
-use Rattle.pc_source.specs.declared.fault.Fault.{Fault}
-use Rattle.pc_source.specs.declared.fault.Fault.TheVariants as fault
-use Rattle.pc_source.specs.declared.fault.Refusal.{Refusal}
 use Rattle.pc_tree.specs.declared.code.Code.TheVariants.{A1}
 use Rattle.pc_tree.specs.declared.code.Finding.{Finding}
 use Rattle.pc_tree.specs.Code.{IsError}
@@ -19,8 +16,6 @@ use Rattle.pc_front.specs.Bytes.{IsModuleOf}
 use Rattle.pc_report.specs.declared.flow.FlowTexts.{FlowTexts}
 use Rattle.pc_report.specs.declared.report.Row.{Row}
 use Rattle.pc_top.specs.BesideErrors.{HasNoSilentOf, HasEvaluatedOneOf}
-use Rattle.pc_top.specs.declared.fault.CheckFault.{CheckFault}
-use Rattle.pc_top.specs.declared.fault.CheckFault.TheVariants as check_fault
 use Rattle.pc_report.specs.Report.{Lists, row_findings, row_flow}
 
 -- no row has the code of an error
@@ -73,15 +68,3 @@ pub record Headline (bytes : List ℕ) (rows : List Row) : Type 0 where
       → HasEvaluatedRow rows events
   pub sound_beside_errors : HasNoSilentRow whole rows → (events : List Place) (end : End) → Run whole events end
       → IsFaultyEnd end → HasEvaluatedListedRow rows events
-
--- P holds for the refusal of a fault that is one; an allocation may fail at any time, and no device is used
-abbrev pub OnCheckFault : (Refusal → Type 0) → CheckFault → Type 0
-OnCheckFault P (check_fault.Refused refusal) = P refusal
-OnCheckFault P check_fault.OutOfMemory = Unit {0}
-OnCheckFault P check_fault.Read = ⊥
-OnCheckFault P check_fault.Write = ⊥
-
--- the fault of a check for a fault of a layer below
-abbrev pub check_fault_of : Fault → CheckFault
-check_fault_of (fault.Refused refusal) = check_fault.Refused refusal
-check_fault_of fault.OutOfMemory = check_fault.OutOfMemory

@@ -1,6 +1,8 @@
 -- The reads and writes of a check of a stream. Own rule of the profile.
 use Rattle.std.specs.Prelude.{◌≡◌, ℕ, ◌≤◌, Bool, true, false, List, Option, None, Some, ⊤, Result, Err, length}
 use Rattle.pc_source.specs.declared.counted.Counted.{Counted}
+use Rattle.pc_source.specs.declared.fault.Fault.{Fault}
+use Rattle.pc_source.specs.declared.fault.Fault.TheVariants as fault
 use Rattle.pc_source.specs.declared.fault.Refusal.{Refusal}
 use Rattle.pc_source.specs.Taken.{TakesAll, TakesBeginning}
 use Rattle.pc_front.specs.Bytes.{IsRefusalOf}
@@ -17,12 +19,17 @@ use Rattle.pc_top.specs.Headline.{Headline}
 use Rattle.pc_top.specs.declared.fault.CheckFault.{CheckFault}
 use Rattle.pc_top.specs.declared.fault.CheckFault.TheVariants as check_fault
 
--- the fault of a check for a fault of reading
+-- the fault of a stream for a fault of the check of its bytes
+abbrev pub check_fault_of : Fault → CheckFault
+check_fault_of (fault.Refused refusal) = check_fault.Refused refusal
+check_fault_of fault.OutOfMemory = check_fault.OutOfMemory
+
+-- the fault of a stream for a fault of reading
 abbrev pub read_checked : ReadFault → CheckFault
 read_checked read_fault.OutOfMemory = check_fault.OutOfMemory
 read_checked read_fault.Read = check_fault.Read
 
--- the fault of a check for a fault of writing
+-- the fault of a stream for a fault of writing
 abbrev pub write_checked : WriteFault → CheckFault
 write_checked write_fault.Write = check_fault.Write
 

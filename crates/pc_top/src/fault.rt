@@ -1,15 +1,13 @@
-//! The reason that there is no report.
+//! The reason that a stream gets no report.
 
 ghost use Rattle.std.specs.Prelude.{◌≡◌};
-ghost use Rattle.pc_top.specs.Headline.{check_fault_of};
-ghost use Rattle.pc_top.specs.Streaming.{read_checked, write_checked};
-ghost use Rattle.pc_top.specs.declared.fault.CheckFault.TheVariants as check_fault;
+ghost use Rattle.pc_top.specs.Streaming.{check_fault_of, read_checked, write_checked};
 
 use pc_report::{ReadFault, WriteFault};
-use pc_source::{Fault, OutOfMemory, Refusal};
+use pc_source::{Fault, Refusal};
 use thiserror::Error;
 
-/// The reason that there is no report. Own rule of the profile.
+/// The reason that a stream gets no report, or no listing of types. Own rule of the profile.
 #[derive(Clone, Copy, Debug, PartialEq, Eq, Error)]
 pub enum CheckFault {
     /// The bytes spell no module.
@@ -34,14 +32,6 @@ impl From<Fault> for CheckFault {
             Fault::Refused(refusal) => CheckFault::Refused(refusal),
             Fault::OutOfMemory => CheckFault::OutOfMemory,
         }
-    }
-}
-
-impl From<OutOfMemory> for CheckFault {
-    ghost from_gives = { λ _ e. e ≡ check_fault.OutOfMemory };
-
-    fn from(_fault: OutOfMemory) -> CheckFault {
-        CheckFault::OutOfMemory
     }
 }
 

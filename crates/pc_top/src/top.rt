@@ -1,24 +1,25 @@
 //! The check of bytes.
 
-ghost use Rattle.std.specs.Prelude.{◌≤◌, length, IfOk, IfErr};
+ghost use Rattle.std.specs.Prelude.{length, IfOk, IfErr};
+ghost use Rattle.pc_source.specs.Answers.{OnRefusal};
+ghost use Rattle.pc_source.specs.Within.{IsWithin};
 ghost use Rattle.pc_front.specs.Bytes.{IsRefusalOf};
-ghost use Rattle.pc_top.specs.Headline.{Headline, OnCheckFault};
+ghost use Rattle.pc_top.specs.Headline.{Headline};
 
 use crate::checking::findings;
-use crate::fault::CheckFault;
 use crate::teardown::Teardown;
 use pc_front::parse_source;
 use pc_report::Report;
-use pc_source::read_source;
+use pc_source::{Fault, read_source};
 use pc_tree::Code;
 use std::alloc::Global;
 
 /// Returns the report of the module that the bytes spell, like `check`; the other memory of the check is released
 /// according to `memory`.
-pub(crate) fn report_of(alloc: Global, bytes: &[u8], memory: Teardown) -> Result<Report, CheckFault>
+pub(crate) fn report_of(alloc: Global, bytes: &[u8], memory: Teardown) -> Result<Report, Fault>
     ensures headline { IfOk result (Headline bytes.now) }
-    ensures refused { IfErr result (OnCheckFault (IsRefusalOf bytes.now)) }
-    ensures within { IfErr result (OnCheckFault (λ refusal. refusal.byte ≤ length bytes.now)) }
+    ensures refused { IfErr result (OnRefusal (IsRefusalOf bytes.now)) }
+    ensures within { IfErr result (IsWithin (length bytes.now)) }
 {
     let source = read_source(alloc, bytes)?;
     let module = parse_source(alloc, &source)?;
@@ -40,10 +41,10 @@ pub(crate) fn report_of(alloc: Global, bytes: &[u8], memory: Teardown) -> Result
 /// # Errors
 ///
 /// `Refused` exactly if the bytes spell no module, with their refusal; `OutOfMemory` only if an allocation failed.
-pub fn check(alloc: Global, bytes: &[u8]) -> Result<Report, CheckFault>
+pub fn check(alloc: Global, bytes: &[u8]) -> Result<Report, Fault>
     ensures headline { IfOk result (Headline bytes.now) }
-    ensures refused { IfErr result (OnCheckFault (IsRefusalOf bytes.now)) }
-    ensures within { IfErr result (OnCheckFault (λ refusal. refusal.byte ≤ length bytes.now)) }
+    ensures refused { IfErr result (OnRefusal (IsRefusalOf bytes.now)) }
+    ensures within { IfErr result (IsWithin (length bytes.now)) }
 {
     // The report is made in the memory that the module and its notes occupied.
     report_of(alloc, bytes, Teardown::Free)

@@ -1,6 +1,8 @@
 //! The types of the module that bytes spell.
 
-ghost use Rattle.std.specs.Prelude.{◌≡◌, ◌↔◌, ◌≤◌, ◌++◌, [], flat_map, length, map, true, Contains, IfOk, IfErr, OnOk};
+ghost use Rattle.std.specs.Prelude.{◌≡◌, ◌↔◌, ◌++◌, [], flat_map, length, map, true, Contains, IfOk, IfErr, OnOk};
+ghost use Rattle.pc_source.specs.Answers.{OnRefusal};
+ghost use Rattle.pc_source.specs.Within.{IsWithin};
 ghost use Rattle.pc_tree.specs.Tree.{module_of};
 ghost use Rattle.pc_scope.specs.ModuleScopes.{AreScopes};
 ghost use Rattle.pc_annotations.specs.Named.{named_module};
@@ -11,10 +13,8 @@ ghost use Rattle.pc_module_rules.specs.Computed.Modules.{module_notes};
 ghost use Rattle.pc_module_rules.specs.NamesOfModules.{names_declared};
 ghost use Rattle.pc_front.specs.Bytes.{IsRefusalOf};
 ghost use Rattle.pc_report.specs.TypeListing.{TypeFact, fact_of};
-ghost use Rattle.pc_top.specs.Headline.{OnCheckFault};
 ghost use Rattle.pc_top.specs.TypesOfBytes.{IsTypeAt, IsTypeFact, ListsTypesOf, expression_fact, name_fact};
 
-use crate::fault::CheckFault;
 use crate::names::{NameReading, add_noted};
 use pc_annotations::{ClassNames, ModuleOutline, named_text, parents_of};
 use pc_check::check_module;
@@ -24,7 +24,7 @@ use pc_intern::InternStore;
 use pc_notes::Notes;
 use pc_report::{TypeEntry, TypeKind, TypeListing, TypeRow};
 use pc_scope::{Scopes, scopes};
-use pc_source::{OutOfMemory, Place, read_source};
+use pc_source::{Fault, OutOfMemory, Place, read_source};
 use pc_tree::Module;
 use pc_types::{BoxStore, BoxType, TypeStore};
 use std::alloc::Global;
@@ -156,10 +156,10 @@ fn entries(alloc: Global, module: &Module) -> Result<Vec<TypeEntry>, OutOfMemory
 ///
 /// As for `check`: `Refused` exactly if the bytes spell no module, with their refusal; `OutOfMemory` only if an
 /// allocation failed.
-pub fn types_of(alloc: Global, bytes: &[u8]) -> Result<TypeListing, CheckFault>
+pub fn types_of(alloc: Global, bytes: &[u8]) -> Result<TypeListing, Fault>
     ensures lists { IfOk result (ListsTypesOf bytes.now) }
-    ensures refused { IfErr result (OnCheckFault (IsRefusalOf bytes.now)) }
-    ensures within { IfErr result (OnCheckFault (λ refusal. refusal.byte ≤ length bytes.now)) }
+    ensures refused { IfErr result (OnRefusal (IsRefusalOf bytes.now)) }
+    ensures within { IfErr result (IsWithin (length bytes.now)) }
 {
     let source = read_source(alloc, bytes)?;
     let module = parse_source(alloc, &source)?;
@@ -175,10 +175,10 @@ pub fn types_of(alloc: Global, bytes: &[u8]) -> Result<TypeListing, CheckFault>
 /// # Errors
 ///
 /// As for `types_of`.
-pub fn type_at(alloc: Global, bytes: &[u8], byte: usize) -> Result<Option<TypeRow>, CheckFault>
+pub fn type_at(alloc: Global, bytes: &[u8], byte: usize) -> Result<Option<TypeRow>, Fault>
     ensures found { IfOk result (IsTypeAt bytes.now byte) }
-    ensures refused { IfErr result (OnCheckFault (IsRefusalOf bytes.now)) }
-    ensures within { IfErr result (OnCheckFault (λ refusal. refusal.byte ≤ length bytes.now)) }
+    ensures refused { IfErr result (OnRefusal (IsRefusalOf bytes.now)) }
+    ensures within { IfErr result (IsWithin (length bytes.now)) }
 {
     let listing = types_of(alloc, bytes)?;
     match listing.smallest_at(byte) {

@@ -9,8 +9,8 @@ ghost use Rattle.pycheck_library.specs.Answers.{IsReported, IsRefused, NamesForm
 use crate::answer::{CheckAnswer, of_kind, refusal_answer, reported};
 use crate::room::copy_into;
 use pc_report::{Format, Report};
-use pc_source::OutOfMemory;
-use pc_top::{CheckFault, check};
+use pc_source::{Fault, OutOfMemory};
+use pc_top::check;
 use std::alloc::Global;
 
 /// The format that a number names, if it names one.
@@ -89,7 +89,7 @@ pub extern "C" fn pycheck_check(
             Ok(answer) => answer,
             Err(_) => of_kind(2),
         },
-        Err(CheckFault::Refused(refusal)) => refusal_answer(refusal),
-        Err(_) => of_kind(2),
+        Err(Fault::Refused(refusal)) => refusal_answer(refusal),
+        Err(Fault::OutOfMemory) => of_kind(2),
     }
 }

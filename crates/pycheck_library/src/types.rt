@@ -3,7 +3,7 @@
 ghost use Rattle.std.specs.Prelude.{◌≡◌, ◌≤◌, length, IfOk, IfErr, Some};
 ghost use Rattle.pc_report.specs.Writing.{IsWritten};
 ghost use Rattle.pc_front.specs.Bytes.{IsRefusalOf};
-ghost use Rattle.pc_top.specs.Headline.{OnCheckFault};
+ghost use Rattle.pc_top.specs.Streaming.{WhenRefused};
 ghost use Rattle.pc_top.specs.TypesOfBytes.{listing_bytes};
 ghost use Rattle.pycheck_library.specs.Answers.{IsRefused, IsListed};
 ghost use Rattle.pycheck_library.specs.Room.{IsPut};
@@ -11,9 +11,9 @@ ghost use Rattle.pycheck_library.specs.Room.{IsPut};
 use crate::answer::{CheckAnswer, of_kind, refusal_answer, reported};
 use crate::room::copy_into;
 use pc_report::{TypeListing, WriteFault};
-use pc_source::{Counted, OutOfMemory};
+use pc_source::Counted;
 use pc_top::{CheckFault, check, types_of};
-use std::alloc::{AllocError, Global};
+use std::alloc::Global;
 
 /// Writes a listing to a list of bytes, as JSON or as text.
 fn write_listing(
@@ -36,21 +36,16 @@ fn put_listing(
     listing: &TypeListing,
     json: bool,
     room: &mut [u8],
-) -> Result<usize, OutOfMemory>
+) -> Result<usize, WriteFault>
     ensures length { IfOk result (λ n. n ≡ length (listing_bytes json listing.now)) }
     ensures put { IfOk result (λ _. IsPut (listing_bytes json listing.now) room.old room.new) }
     ensures untouched { IfErr result (λ _. room.new ≡ room.old) }
 {
     let mut writer = Counted::new(Vec::new(alloc));
-    match write_listing(listing, &mut writer, json) {
-        Ok(()) => {
-            let bytes = writer.inner();
-            copy_into(room, bytes.as_slice());
-            Ok(bytes.len())
-        }
-        // A list of bytes takes what it has memory for, so an allocation failed.
-        Err(_) => Err(OutOfMemory::from(AllocError)),
-    }
+    write_listing(listing, &mut writer, json)?;
+    let bytes = writer.inner();
+    copy_into(room, bytes.as_slice());
+    Ok(bytes.len())
 }
 
 /// Lists the types of the module that bytes spell, and puts the listing into the room. The answer has the numbers of
@@ -62,8 +57,8 @@ fn listed(
     room: &mut [u8],
 ) -> Result<CheckAnswer, CheckFault>
     ensures listed { IfOk result (λ a. (a.kind ≡ 0) × IsListed bytes.now json room.old room.new a) }
-    ensures refused { IfErr result (OnCheckFault (IsRefusalOf bytes.now)) }
-    ensures within { IfErr result (OnCheckFault (λ refusal. refusal.byte ≤ length bytes.now)) }
+    ensures refused { IfErr result (WhenRefused (IsRefusalOf bytes.now)) }
+    ensures within { IfErr result (WhenRefused (λ refusal. refusal.byte ≤ length bytes.now)) }
     ensures untouched { IfErr result (λ _. room.new ≡ room.old) }
 {
     let report = check(alloc, bytes)?;
@@ -96,6 +91,7 @@ pub extern "C" fn pycheck_types(
     match listed(alloc, bytes, json, room) {
         Ok(answer) => answer,
         Err(CheckFault::Refused(refusal)) => refusal_answer(refusal),
-        Err(_) => of_kind(2),
+        // Writing into a list of bytes fails only if an allocation fails.
+        Err(CheckFault::OutOfMemory | CheckFault::Read | CheckFault::Write) => of_kind(2),
     }
 }

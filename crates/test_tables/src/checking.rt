@@ -2,7 +2,7 @@
 use pc_front::parse_source;
 use pc_notes::Notes;
 use pc_scope::scopes;
-use pc_source::{Counted, Source, read_source};
+use pc_source::{Counted, Fault, Source, read_source};
 use pc_top::{
     CheckFault, FindingCounts, Format, Report, check, check_stream, findings_by, type_at, types_of,
     types_stream,
@@ -23,21 +23,21 @@ fn report_of_notes(
     source: &Source,
     module: &Module,
     notes: &Notes,
-) -> Result<Report, CheckFault> {
+) -> Result<Report, Fault> {
     let flows = notes.texts(alloc, module, Code::A1)?;
     let found = notes.findings(alloc)?;
     Ok(Report::of(alloc, source, &found, &flows)?)
 }
 
 /// Returns the report of a module, with types in boxes.
-fn report_by_boxes(alloc: Global, source: &Source, module: &Module) -> Result<Report, CheckFault> {
+fn report_by_boxes(alloc: Global, source: &Source, module: &Module) -> Result<Report, Fault> {
     let scopes = scopes(alloc, module)?;
     let notes = findings_by(&mut BoxStore::new(), alloc, module, &scopes)?;
     report_of_notes(alloc, source, module, &notes)
 }
 
 /// Returns the report of the module that bytes spell, with types in boxes.
-fn check_by_boxes(alloc: Global, bytes: &[u8]) -> Result<Report, CheckFault> {
+fn check_by_boxes(alloc: Global, bytes: &[u8]) -> Result<Report, Fault> {
     let source = read_source(alloc, bytes)?;
     let module = parse_source(alloc, &source)?;
     report_by_boxes(alloc, &source, &module)
@@ -46,7 +46,7 @@ fn check_by_boxes(alloc: Global, bytes: &[u8]) -> Result<Report, CheckFault> {
 /// Returns the text of a report in a format, or of the refusal.
 fn told(
     alloc: Global,
-    answer: Result<Report, CheckFault>,
+    answer: Result<Report, Fault>,
     format: Format,
 ) -> Result<String, AllocError> {
     match answer {

@@ -9,6 +9,7 @@ TOOL is one of these; `tools/attack TOOL --help` says how each is called:
     truncate     modules that are cut at every length, compared with an independent reading
     fail_memory  lets each request for memory fail in turn
     search_runs  looks for a run that fails beside errors, and passes through no line of the report
+    definitions  changes definitions one at a time, and tries which of the changes the proofs refuse
 
 The exit status is that of the tool, and 3 after a mistake in the words.
 """
@@ -16,7 +17,7 @@ from __future__ import annotations
 
 from ..words import run_tool
 
-TOOLS = ("fuzz", "hostile", "truncate", "fail_memory", "search_runs")
+TOOLS = ("fuzz", "hostile", "truncate", "fail_memory", "search_runs", "definitions")
 
 
 def main() -> int:

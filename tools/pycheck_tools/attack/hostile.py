@@ -12,8 +12,8 @@ A text fails where pycheck was ended by a signal, gave a status other than 0 to 
 processor time, or 1 where its types are large unions and tuples, took more than 80 MiB, or answered otherwise. These
 seconds are those of a machine on which a plain module of a million bytes, as tools/measure speed makes it, takes 0.11 seconds.
 That module is checked three times first; where the least of these takes longer, the bound is as many times as high, up
-to five times, and it is printed before the rows. A text that takes more is tried up to three times, of which the least
-counts. Some texts are known to take more, and are listed here under KNOWN with the bound that they go over: that alone
+to five times, and it is printed before the rows. A text that takes more is tried up to four times more, each time with
+the bound that the plain module shows right after it, if that is higher. Some texts are known to take more, and are listed here under KNOWN with the bound that they go over: that alone
 is no failure of theirs. The failures are told again at the end, then the known texts that went over a bound and those
 that did not, and the exit status is 1 where there was a failure. No peak is told lower than some 20 MiB, which this
 script itself has when it starts the program.
@@ -72,7 +72,6 @@ Texts = Callable[[int], str]
 Wants = Union[Want, Callable[[int], Want]]
 # The exit status, the ends of the answer, the seconds and the MiB of a run
 Got = Tuple[int, str, str, float, float]
-Quickest = Callable[[Callable[[], Got], Callable[[Got], float], float], Got]
 CLEAN = Want(0, "errors 0, dynamic 0", "errors 0, dynamic 0")
 
 
@@ -754,19 +753,19 @@ def faults_of(got: Got, want: Optional[Want], known: AbstractSet[str] = frozense
 class Tally:
     """Collects the faults of the texts that were tried, and the known texts that exceeded a bound."""
 
-    def __init__(self, most: float) -> None:
-        self.most = most
+    def __init__(self, slowness: float) -> None:
+        self.slowness = slowness
         self.failures: List[str] = []
         self.known_over: List[str] = []
         self.known_within: List[str] = []
 
-    def most_of(self, name: str) -> float:
-        """Returns the seconds that a text may take."""
-        return self.most / 2 if name in UNIONS else self.most
+    def most_of(self, name: str, slowness: Optional[float] = None) -> float:
+        """Returns the seconds that a text may take on a machine of this slowness, or of the one at the beginning."""
+        return (SECONDS / 2 if name in UNIONS else SECONDS) * (slowness or self.slowness)
 
-    def take(self, name: str, shown: str, got: Got, want: Optional[Want]) -> bool:
-        """Records one run, and returns whether something is wrong with it."""
-        known, most = KNOWN.get(name, set()), self.most_of(name)
+    def take(self, name: str, shown: str, got: Got, want: Optional[Want], most: float) -> bool:
+        """Records one run that may take `most` seconds, and returns whether something is wrong with it."""
+        known = KNOWN.get(name, set())
         wrong = list(faults_of(got, want, known, most))
         over = [taken for bound, taken in over_bounds(got, most).items() if bound in known]
         self.failures += [f"{shown}: {', '.join(wrong)}"] if wrong else []
@@ -805,16 +804,27 @@ def want_in_form(want: Optional[Want], words: Tuple[str, ...]) -> Optional[Want]
     return Want(want.status, "", "") if words == ("--json",) else want._replace(first=want.first.split(" any-flow")[0] + " any-flow")
 
 
-def tried(program: str, name: str, make: Make, tally: Tally, quickest: Quickest, words: Tuple[str, ...] = ()) -> None:
+def seconds_of(got: Got) -> float:
+    """Returns the seconds of a run."""
+    return got[3]
+
+
+def slowness_of(program: str) -> float:
+    """Returns how many times slower than the stated machine this one is now."""
+    return speed.slowness(lambda text: measured(program, (), text.encode())[3])
+
+
+def tried(program: str, name: str, make: Make, tally: Tally, words: Tuple[str, ...] = ()) -> None:
     """Tries one text, more than once if it takes too long, prints its row, and adds it to the tally."""
     text, want = make()
     data = text if isinstance(text, bytes) else text.encode()
     del text
     want = want_in_form(want, words)
-    got = quickest(lambda: measured(program, words, data), lambda got: got[3], tally.most_of(name))
+    got, most = speed.fairest(lambda: measured(program, words, data), seconds_of, tally.most_of(name),
+                              lambda: tally.most_of(name, slowness_of(program)))
     status, first, last, seconds, peak = got
     in_form = name + FORMS[words]
-    fails = " FAILS" if tally.take(name, in_form, got, want) else ""
+    fails = " FAILS" if tally.take(name, in_form, got, want, most) else ""
     shown = first[:60] if words or first == last else f"{first[:40]} .. {last}"
     print(f"| {in_form} | {len(data):,} | {status} | {shown} | {seconds:.2f} | {peak:.0f} |{fails}", flush=True)
 
@@ -827,11 +837,11 @@ def main(words: List[str]) -> int:
     asked = parser.parse_args(words)
     program, names = asked.program, asked.names
     cases = {**LONG, **UNIONS, **LIMITS}
-    tally = Tally(SECONDS * speed.slowness(lambda text: measured(program, (), text.encode())[3]))
-    print(f"The bound here is {tally.most:.2f} seconds.\n")
+    tally = Tally(slowness_of(program))
+    print(f"The bound here is {SECONDS * tally.slowness:.2f} seconds.\n")
     print("| text | bytes | status | answer | seconds | MiB |\n|---|---|---|---|---|---|", flush=True)
     for name in names or cases:
         for form in forms_of(name):
-            tried(program, name, cases[name], tally, speed.quickest, form)
+            tried(program, name, cases[name], tally, form)
     tally.tell(len(names or cases))
     return 1 if tally.failures else 0

@@ -189,9 +189,9 @@ SOME = (CLASS, LIMIT, TOTAL, FIND, WORDS)
 COUNTED = ((10_240, SOME, 4), (225_000, EVERY, None), (815_752, EVERY, 300), (900_000, EVERY, None))
 HELD = 25  # MiB that a check of any of them may hold
 # The speed of a machine is measured by a check of a module of so many bytes, which takes so many seconds on the machine
-# that the bounds of seconds are for; how many times as long it may take elsewhere, and how often a check that takes too
-# long is tried
-PLAIN, PLAIN_SECONDS, MOST_TIMES, TRIES = 1_000_000, 0.11, 5.0, 3
+# that the bounds of seconds are for; how many times as long it may take elsewhere, how often a check that takes too
+# long is tried, and how often if the speed of the machine is measured beside each of these tries
+PLAIN, PLAIN_SECONDS, MOST_TIMES, TRIES, FAIR_TRIES = 1_000_000, 0.11, 5.0, 3, 5
 
 
 def group(number: int, rng: random.Random, parts: Sequence[str]) -> str:
@@ -345,6 +345,19 @@ def quickest(take: Callable[[], Tried], seconds: Callable[[Tried], float], most:
     while len(taken) < TRIES and all(seconds(it) > most for it in taken):
         taken.append(take())
     return min(taken, key=seconds)
+
+
+def fairest(
+    take: Callable[[], Tried], seconds: Callable[[Tried], float], most: float, now: Callable[[], float]
+) -> Tuple[Tried, float]:
+    """Returns a try and the seconds that it may take. The first may take `most`. While each takes more than it may,
+    another is made, up to four more, which may take what `now` tells right after it, if that is more than `most`: the
+    speed of a machine may change between two texts. Of several the one that takes the least part of its seconds is
+    returned."""
+    tries = [(take(), most)]
+    while len(tries) < FAIR_TRIES and all(seconds(it) > bound for it, bound in tries):
+        tries.append((take(), max(most, now())))
+    return min(tries, key=lambda it: seconds(it[0]) / it[1])
 
 
 def show_instructions(

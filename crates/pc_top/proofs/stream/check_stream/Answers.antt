@@ -1,7 +1,9 @@
-use Rattle.std.proofs.Common.{ℕ, ◌≤◌, List, length, subst}
+use Rattle.std.proofs.Common.{ℕ, List, length, subst}
 use Rattle.std.proofs.lemmas.Result.{err_from_is_err_and}
+use Rattle.pc_source.specs.Answers.{OnRefusal}
+use Rattle.pc_source.specs.Within.{IsWithin}
 use Rattle.pc_front.specs.Bytes.{IsRefusalOf}
-use Rattle.pc_top.specs.Headline.{Headline, OnCheckFault}
+use Rattle.pc_top.specs.Headline.{Headline}
 use Rattle.pc_top.proofs.StreamBytes.{refused_stream, reported_stream, begun_stream, within_stream}
 use Rattle.pc_top.proofs.stream.check_stream.Goals as goal
 
@@ -11,7 +13,7 @@ returns-in_err-report-clause-refused g c =
     let read = c.in_ok-bytes.ensures.read in
     let told = g.R.Read.remaining c.args.reader.now.device in
     rw (p.1, p.2) (refused_stream told _ c.in_ok-bytes.bytes.items read.given read.whole c.in_err-report.field-0.0
-    (subst (λ (l : List ℕ). OnCheckFault (IsRefusalOf l) c.in_err-report.field-0.0) c.as_slice.ensures.value
+    (subst (λ (l : List ℕ). OnRefusal (IsRefusalOf l) c.in_err-report.field-0.0) c.as_slice.ensures.value
     c.in_err-report.ensures.refused))
 
 pub returns-in_err-report-clause-within : goal.returns-in_err-report-clause-within
@@ -21,7 +23,7 @@ returns-in_err-report-clause-within g c =
     let told = g.R.Read.remaining c.args.reader.now.device in
     rw (p.1, p.2) (within_stream told _ c.in_ok-bytes.bytes.items read.given read.whole read.short
     c.in_err-report.field-0.0
-    (subst (λ (l : List ℕ). OnCheckFault (λ r. r.byte ≤ length l) c.in_err-report.field-0.0) c.as_slice.ensures.value
+    (subst (λ (l : List ℕ). IsWithin (length l) c.in_err-report.field-0.0) c.as_slice.ensures.value
     c.in_err-report.ensures.within))
 
 pub returns-in_err-write_report-clause-begun : goal.returns-in_err-write_report-clause-begun
