@@ -14,7 +14,7 @@ use Rattle.pc_report.specs.declared.listing.TypeRow.{TypeRow}
 use Rattle.pc_report.specs.TypeListing.{RowContent, content_of}
 use Rattle.pc_top.specs.TypesOfBytes.{IsTypeAt}
 use Rattle.pc_top.proofs.OneReport.{one_report}
-use Rattle.pc_top.proofs.OneTypeAt.{one_type_at}
+use Rattle.pc_checked_session.proofs.OneTypeAt.{one_type_at}
 use Rattle.pc_documents.specs.declared.checker.CheckOutcome.{CheckOutcome}
 use Rattle.pc_documents.specs.declared.checker.CheckOutcome.TheVariants.{Items, Refused}
 use Rattle.pc_documents.specs.CheckerAnswers.{outcome, type_shown}

@@ -84,7 +84,12 @@ impl Checker for Proved {
         Ok(CheckOutcome::Items(items_of(alloc, report.rows())?))
     }
 
-    fn type_at(&self, alloc: Global, text: &str, byte: usize) -> Result<Option<String>, OutOfMemory> {
+    fn type_at(
+        &self,
+        alloc: Global,
+        text: &str,
+        byte: usize,
+    ) -> Result<Option<String>, OutOfMemory> {
         let found = match type_at(alloc, text.as_bytes(), byte) {
             Ok(found) => found,
             Err(fault) => {

@@ -110,28 +110,27 @@ pub(crate) fn type_text(alloc: Global, ty: &str) -> Result<String, AllocError>
     format!(in alloc; "```python\n{ty}\n```")
 }
 
-/// Returns a text, followed by the explanations of the findings at a position, in order.
-fn items_text(
+/// Appends the explanations of the findings at a position, in order.
+fn add_items(
     alloc: Global,
+    told: &mut String,
     encoding: Encoding,
     text: &[u8],
     items: &[ReportedFinding],
-    said: String,
     position: Position,
-) -> Result<String, AllocError>
-    ensures { IfOk result (λ s. string_bytes s
-        ≡ fold said_after (string_bytes said) (filter (has_position encoding text.now position) items.now)) }
+) -> Result<(), AllocError>
+    ensures { OnOk result (string_bytes told.new ≡ fold said_after (string_bytes told.old)
+        (filter (has_position encoding text.now position) items.now)) }
 {
-    let mut told = said;
     let mut known = Mark::start();
     for item in items {
         let (has, start) = has_position(text, encoding, known, item, position);
         known = start;
         if has {
-            add_item(alloc, &mut told, item)?;
+            add_item(alloc, told, item)?;
         }
     }
-    Ok(told)
+    Ok(())
 }
 
 /// Returns the hover text at a position in Markdown, given the text of the type there; empty if there is neither a type
@@ -149,7 +148,9 @@ pub(crate) fn hover_text(
 {
     match found {
         CheckOutcome::Items(items) => {
-            items_text(alloc, settings.encoding, text, items, said, position)
+            let mut told = said;
+            add_items(alloc, &mut told, settings.encoding, text, items, position)?;
+            Ok(told)
         }
         CheckOutcome::Refused(refusal) => {
             let start = start_of(text, refusal.byte);

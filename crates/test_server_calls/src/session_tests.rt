@@ -23,6 +23,18 @@ impl Checker for Refusing {
             byte: 1,
         }))
     }
+
+    fn type_at(
+        &self,
+        alloc: Global,
+        text: &str,
+        byte: usize,
+    ) -> Result<Option<String>, OutOfMemory> {
+        let _ = alloc;
+        let _ = text;
+        let _ = byte;
+        Ok(None)
+    }
 }
 
 const BEGIN: &str = "{\"id\":1,\"method\":\"initialize\",\"params\":{}}";
