@@ -2,7 +2,10 @@
 -- determined.
 use Rattle.std.proofs.Common.{◌≡◌, ℕ, List, [], ◌∷◌, map, Option, None, Some, refl, sym, ap, ap₂, subst, inl, inr, arith}
 use Rattle.std.proofs.Common.{◌∙◌}
-use Rattle.std.specs.Prelude.{option_map}
+use Rattle.std.specs.Prelude.{◌++◌, codes, option_map}
+use Rattle.std.specs.Rc.{rc_str_bytes}
+use Rattle.std.specs.declared.rc.RcStr.{RcStr}
+use Rattle.std.specs.declared.alloc.Global.{Global}
 use Rattle.pc_front.proofs.BytesLaws.{no_refusal}
 use Rattle.pc_front.proofs.OneRefusal.{one_refusal}
 use Rattle.pc_tree.specs.declared.code.Finding.{Finding}
@@ -12,6 +15,7 @@ use Rattle.pc_report.specs.Report.{row_flow}
 use Rattle.pc_top.specs.OneReport.{RowSays, texts_of, said_by}
 use Rattle.pc_report.specs.declared.listing.TypeRow.{TypeRow}
 use Rattle.pc_report.specs.TypeListing.{RowContent, content_of}
+use Rattle.pc_report.specs.TypeTexts.{current_text}
 use Rattle.pc_top.specs.TypesOfBytes.{IsTypeAt}
 use Rattle.pc_top.proofs.OneReport.{one_report}
 use Rattle.pc_checked_session.proofs.OneTypeAt.{one_type_at}
@@ -22,7 +26,7 @@ use Rattle.pc_documents.specs.declared.checker.ReportedFinding.{ReportedFinding}
 use Rattle.pc_session.specs.Exchanges.{IsDetermined, RepliesAreDetermined}
 use Rattle.pc_documents.specs.Said.{said_by as said_by_found, SayTheSame}
 use Rattle.pc_session.proofs.Determined.{determined}
-use Rattle.pc_checked_session.specs.Found.{Said, shown, shown_flow, said_by_item, said_by_row, fact_text, types_of_row}
+use Rattle.pc_checked_session.specs.Found.{Said, shown, shown_flow, said_by_item, said_by_row, types_of_row}
 use Rattle.pc_checked_session.specs.Found.{IsFoundIn, IsOutcomeOf}
 
 some_inj : {A : Type 0} {x y : A} → Some x ≡ Some y → x ≡ y
@@ -33,6 +37,21 @@ some_none e = grind arith
 
 -- ---- types of rows
 
+-- the current type of a content, behind its declared one
+abbrev current_told : Option (List ℕ) → List ℕ
+current_told None = []
+current_told (Some type) = codes " = " ++ type
+
+abbrev content_told : RowContent → List ℕ
+content_told c = c.fact.type ++ current_told c.fact.current
+
+current_same : (current : Option (RcStr Global)) → current_text current ≡ current_told (option_map rc_str_bytes current)
+current_same None = refl
+current_same (Some type) = refl
+
+row_same : (row : TypeRow) → types_of_row row ≡ content_told (content_of row)
+row_same row = ap (λ l. rc_str_bytes row.entry.text ++ l) (current_same row.entry.current)
+
 -- rows with the same content have the same text
 row_texts : (row other : Option TypeRow) → option_map content_of row ≡ option_map content_of other
     → option_map types_of_row row ≡ option_map types_of_row other
@@ -40,7 +59,7 @@ row_texts None None e = refl
 row_texts None (Some s) e = absurd (some_none (sym e))
 row_texts (Some r) None e = absurd (some_none e)
 row_texts (Some r) (Some s) e =
-    ap (λ (c : RowContent). Some (fact_text c.fact)) (some_inj e)
+    ap Some (row_same r ∙ (ap content_told (some_inj e) ∙ sym (row_same s)))
 
 -- ---- rows
 

@@ -1,5 +1,5 @@
 -- The findings of the proved check in a text, and the types that it shows there. Own rule of the server.
-use Rattle.std.specs.Prelude.{◌≡◌, ◌⊎◌, ◌++◌, codes, ℕ, nat_lt, ◌||◌, Bool, not, List, length, Option, None, Some, string_bytes, map, option_map}
+use Rattle.std.specs.Prelude.{◌≡◌, ◌⊎◌, ◌++◌, ℕ, nat_lt, ◌||◌, Bool, not, List, length, Option, None, Some, string_bytes, map, option_map}
 use Rattle.std.specs.Prelude.{if◌then◌else◌}
 use Rattle.std.specs.Rc.{rc_str_bytes}
 use Rattle.pc_source.specs.declared.fault.Refusal.{Refusal}
@@ -13,7 +13,7 @@ use Rattle.pc_documents.specs.declared.checker.ReportedFinding.{ReportedFinding}
 use Rattle.pc_documents.specs.declared.checker.CheckOutcome.{CheckOutcome}
 use Rattle.pc_documents.specs.declared.checker.CheckOutcome.TheVariants.{Items, Refused}
 use Rattle.pc_report.specs.declared.listing.TypeRow.{TypeRow}
-use Rattle.pc_report.specs.TypeListing.{TypeFact, fact_of}
+use Rattle.pc_report.specs.TypeTexts.{current_text}
 use Rattle.pc_documents.specs.CheckerAnswers.{CheckerAnswer, outcome, type_shown}
 use Rattle.pc_top.specs.Headline.{Headline}
 use Rattle.pc_top.specs.TypesOfBytes.{IsTypeAt}
@@ -58,19 +58,10 @@ IsOutcomeOf text (Items items) =
     (rows : List Row) × Headline text rows × (map said_by_item items.items ≡ map said_by_row rows)
 IsOutcomeOf text (Refused refusal) = IsRefusalOf text refusal
 
--- the current type of a name, behind its declared one, if it is another
-abbrev pub current_text : Option (List ℕ) → List ℕ
-current_text None = codes ""
-current_text (Some current) = codes "  # here " ++ current
-
--- the types of a fact as a text: of an expression its type; of a name its declared type and, if it is another, its
--- current type
-abbrev pub fact_text : TypeFact → List ℕ
-fact_text fact = fact.type ++ current_text fact.current
-
--- the types of a row as a text
+-- the types of a row as a text, as `--types` prints them: of an expression its type; of a name its declared type and, if it
+-- is another, its current type
 abbrev pub types_of_row : TypeRow → List ℕ
-types_of_row row = fact_text (fact_of row.entry)
+types_of_row row = rc_str_bytes row.entry.text ++ current_text row.entry.current
 
 -- the type shown at a byte of a module's text: that of the smallest row around the byte in the listing of its types
 pub record IsTypeOf (text : List ℕ) (byte : ℕ) (shown : Option (List ℕ)) : Type 0 where

@@ -17,7 +17,7 @@ use Rattle.pc_documents.specs.Agreed.{Agreed}
 use Rattle.pc_documents.specs.Anchors.{anchor_of, entry_at}
 use Rattle.pc_documents.specs.Diagnostics.{position_at, range_data, severity_of, message_text, diagnostic_data}
 use Rattle.pc_documents.specs.Diagnostics.{item_data, found_data, limited}
-use Rattle.pc_documents.specs.Hovers.{is_within, has_position, flow_text, ruled, said_after, type_text, hover_text}
+use Rattle.pc_documents.specs.Hovers.{is_within, has_position, flow_text, ruled, said_after, code_block, hover_text}
 use Rattle.pc_documents.specs.Said.{texts_of, said_by, SayTheSame}
 
 -- a finding, and the texts of the two types of its flow
@@ -95,9 +95,9 @@ all_told encoding text position (item ∷ items) told =
 pub same_hovers : (agreed : Agreed) (text : List ℕ) (position : Position) (type : Option (List ℕ)) (one other : CheckOutcome)
     → SayTheSame one other → hover_text agreed text one type position ≡ hover_text agreed text other type position
 same_hovers agreed text position type (Items items) (Items others) same =
-    all_told agreed.encoding text position items.items (type_text type)
-    ∙ (ap (λ said. fold told_after (type_text type) (filter (is_at agreed.encoding text position) said)) same
-    ∙ sym (all_told agreed.encoding text position others.items (type_text type)))
+    all_told agreed.encoding text position items.items (code_block type)
+    ∙ (ap (λ said. fold told_after (code_block type) (filter (is_at agreed.encoding text position) said)) same
+    ∙ sym (all_told agreed.encoding text position others.items (code_block type)))
 same_hovers agreed text position type (Items items) (Refused refusal) same = absurd same
 same_hovers agreed text position type (Refused refusal) (Items items) same = absurd same
 same_hovers agreed text position type (Refused refusal) (Refused other) same =

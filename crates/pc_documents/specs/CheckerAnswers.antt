@@ -9,8 +9,8 @@ pub data CheckerAnswer : Type 0 where
   type_shown : (byte : ℕ) → Option (List ℕ) → CheckerAnswer
 
 -- two answers do not contradict each other: two outcomes say the same, and so do two types shown at one byte
-abbrev pub Agree : CheckerAnswer → CheckerAnswer → Type 0
-Agree (outcome one) (outcome other) = SayTheSame one other
-Agree (type_shown byte one) (type_shown place other) = byte ≡ place → one ≡ other
-Agree (outcome one) (type_shown byte other) = Unit {0}
-Agree (type_shown byte one) (outcome other) = Unit {0}
+abbrev pub AreConsistent : CheckerAnswer → CheckerAnswer → Type 0
+AreConsistent (outcome one) (outcome other) = SayTheSame one other
+AreConsistent (type_shown byte one) (type_shown place other) = byte ≡ place → one ≡ other
+AreConsistent (outcome one) (type_shown byte other) = Unit {0}
+AreConsistent (type_shown byte one) (outcome other) = Unit {0}

@@ -58,15 +58,15 @@ abbrev pub said_after : List ℕ → ReportedFinding → List ℕ
 said_after told item = ruled told ++ item_text item
 
 -- the type at a position, as code in Markdown
-abbrev pub type_text : Option (List ℕ) → List ℕ
-type_text None = []
-type_text (Some type) = codes "```python\n" ++ (type ++ codes "\n```")
+abbrev pub code_block : Option (List ℕ) → List ℕ
+code_block None = []
+code_block (Some type) = codes "```python\n" ++ (type ++ codes "\n```")
 
 -- the hover text at a position: the type there, and the explanation of each finding whose place covers it, in order; or
 -- the explanation of the refusal on the line of its character
 abbrev pub hover_text : Agreed → List ℕ → CheckOutcome → Option (List ℕ) → Position → List ℕ
 hover_text agreed text (Items items) type position =
-    fold said_after (type_text type) (filter (has_position agreed.encoding text position) items.items)
+    fold said_after (code_block type) (filter (has_position agreed.encoding text position) items.items)
 hover_text agreed text (Refused refusal) type position =
     if line_at text (start_of text refusal.byte) == position.line then refusal_text refusal else []
 
@@ -76,7 +76,7 @@ module _ (answers : List ℕ → CheckerAnswer → Type 0) where
   IsShownAtByte text None type = type ≡ None
   IsShownAtByte text (Some byte) type = answers text (type_shown byte type)
 
-  -- the type that is shown at a position of a text: that at the first byte there
+  -- the type that is shown at a position of a text: that at the byte there
   pub record IsShownAt (encoding : Encoding) (text : List ℕ) (position : Position) (type : Option (List ℕ)) : Type 0 where
     pub byte : Option ℕ
     pub is_there : IsByteAt encoding text position byte
@@ -104,4 +104,4 @@ module _ (answers : List ℕ → CheckerAnswer → Type 0) where
   pub record IsTypeSaid (encoding : Encoding) (text : List ℕ) (position : Position) (told : List ℕ) : Type 0 where
     pub type : Option (List ℕ)
     pub shows_it : IsShownAt encoding text position type
-    pub are : told ≡ type_text type
+    pub are : told ≡ code_block type

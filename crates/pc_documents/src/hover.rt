@@ -4,7 +4,7 @@ ghost use Rattle.std.specs.Prelude.{◌≡◌, ℕ, List, Option, Some, OnOk, If
 ghost use Rattle.pc_position.specs.Positions.{IsPositionOf};
 ghost use Rattle.pc_documents.specs.Agreed.{agreed_of};
 ghost use Rattle.pc_documents.specs.Hovers.{is_before, is_within, has_position, flow_text, item_text, refusal_text};
-ghost use Rattle.pc_documents.specs.Hovers.{ruled, said_after, type_text, hover_text};
+ghost use Rattle.pc_documents.specs.Hovers.{ruled, said_after, code_block, hover_text};
 
 use crate::checker::{CheckOutcome, FlowTypes, ReportedFinding};
 use crate::diagnostics::{ends_of, start_of};
@@ -104,8 +104,8 @@ fn has_position(
 }
 
 /// Returns a type as code in Markdown.
-pub(crate) fn type_text(alloc: Global, ty: &str) -> Result<String, AllocError>
-    ensures { IfOk result (λ s. string_bytes s ≡ type_text (Some ty.now)) }
+pub(crate) fn code_block(alloc: Global, ty: &str) -> Result<String, AllocError>
+    ensures { IfOk result (λ s. string_bytes s ≡ code_block (Some ty.now)) }
 {
     format!(in alloc; "```python\n{ty}\n```")
 }
@@ -143,7 +143,7 @@ pub(crate) fn hover_text(
     said: String,
     position: Position,
 ) -> Result<String, AllocError>
-    ensures { (type : Option (List ℕ)) → string_bytes said ≡ type_text type → IfOk result
+    ensures { (type : Option (List ℕ)) → string_bytes said ≡ code_block type → IfOk result
         (λ s. string_bytes s ≡ hover_text (agreed_of settings.now) text.now found.now type position) }
 {
     match found {

@@ -6,9 +6,9 @@ ghost use Rattle.pc_documents.specs.Hovers.{IsTypeSaid, IsToldOf, IsToldAs};
 
 use crate::checker::Checker;
 use crate::documents::Document;
-use crate::hover::{hover_text, type_text};
+use crate::hover::{code_block, hover_text};
 use crate::settings::Settings;
-use pc_position::{Encoding, Position, byte_at};
+use pc_position::{Encoding, Position, byte_of};
 use pc_source::OutOfMemory;
 use std::alloc::Global;
 
@@ -23,11 +23,11 @@ fn type_of<C: Checker>(
     ensures { IfOk result
         (λ s. IsTypeSaid (C.answers checker.now) encoding text.now position (string_bytes s)) }
 {
-    let Some(byte) = byte_at(text.as_bytes(), encoding, position) else {
+    let Some(byte) = byte_of(text.as_bytes(), encoding, position) else {
         return Ok(String::new(alloc));
     };
     match checker.type_at(alloc, text, byte)? {
-        Some(ty) => Ok(type_text(alloc, ty.as_str())?),
+        Some(ty) => Ok(code_block(alloc, ty.as_str())?),
         None => Ok(String::new(alloc)),
     }
 }

@@ -5,4 +5,4 @@ mod laws;
 mod positions;
 
 pub use laws::{alike_on_ascii, columns_are_characters, lines_from_one};
-pub use positions::{Encoding, Mark, Position, byte_at, mark_after, position_in, position_of};
+pub use positions::{Encoding, Mark, Position, byte_of, mark_after, position_in, position_of};

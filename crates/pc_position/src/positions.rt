@@ -1,6 +1,6 @@
 //! Positions of bytes.
 
-ghost use Rattle.std.specs.Prelude.{◌≡◌, ◌≤◌, length};
+ghost use Rattle.std.specs.Prelude.{◌≡◌, ◌≤◌, length, Some};
 ghost use Rattle.pc_position.specs.Positions.{IsByteAt, IsPositionOf, units, line_at, character_at};
 
 use pc_source::Source;
@@ -88,24 +88,32 @@ pub fn mark_after(text: &[u8], encoding: Encoding, known: Mark, byte: usize) -> 
     }
 }
 
-/// Returns the first byte of a text at a position, or the length of the text if its end is the first there; `None` if
-/// neither a byte nor the end is there. Language Server Protocol 3.17, "Position".
-pub fn byte_at(text: &[u8], encoding: Encoding, position: Position) -> Option<usize>
+/// Returns the mark of a byte if it is at a position, otherwise `found`.
+fn at_or(known: Mark, position: Position, found: Option<usize>) -> Option<usize>
+    ensures here { known.position ≡ position → result ≡ Some known.byte }
+    ensures elsewhere { ¬ (known.position ≡ position) → result ≡ found }
+{
+    if known.position == position {
+        Some(known.byte)
+    } else {
+        found
+    }
+}
+
+/// Returns the byte of a text at a position, or the length of the text if its end is there: where a character has several
+/// bytes, the last byte at the position is the first one of a character. `None` if neither a byte nor the end is there.
+/// Language Server Protocol 3.17, "Position".
+pub fn byte_of(text: &[u8], encoding: Encoding, position: Position) -> Option<usize>
     ensures { IsByteAt encoding text.now position result }
 {
     let mut known = Mark::start();
+    let mut found = None;
     for byte in 0..text.len() {
         known = mark_after(text, encoding, known, byte);
-        if known.position == position {
-            return Some(byte);
-        }
+        found = at_or(known, position, found);
     }
     let end = mark_after(text, encoding, known, text.len());
-    if end.position == position {
-        Some(text.len())
-    } else {
-        None
-    }
+    at_or(end, position, found)
 }
 
 /// Returns the position of a byte of a text. Beyond the end it is the position of the end. Language Server Protocol

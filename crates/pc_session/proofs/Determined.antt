@@ -1,13 +1,13 @@
 -- The replies to messages are determined, over a checker that always says the same of a text.
-use Rattle.std.specs.Prelude.{◌⊎◌, ⊎_elim, codes, option_and_then, is_some}
+use Rattle.std.specs.Prelude.{◌⊎◌, codes, option_and_then, is_some}
 use Rattle.std.proofs.Common.{◌≡◌, ℕ, ◌<◌, ◌≤◌, length, Bool, true, false, List, [], ◌∷◌, ◌++◌, Option, None, Some, sym}
-use Rattle.std.proofs.Common.{ap, ap₂, refl, ◌∙◌, subst, inl, inr, true≢false, arith}
+use Rattle.std.proofs.Common.{ap, ap₂, refl, ◌∙◌, subst, inl, inr, ⊎_elim, true≢false, arith}
 use Rattle.std.proofs.lemmas.Bool.{cases_order}
 use Rattle.serde_json.specs.Data.{Data, null, array, no_items}
 use Rattle.serde_json.specs.Find.{get}
 use Rattle.pc_position.specs.declared.positions.Encoding.{Encoding}
 use Rattle.pc_position.specs.declared.positions.Position.{Position}
-use Rattle.pc_position.specs.Positions.{IsFirstByte, IsByteAt}
+use Rattle.pc_position.specs.Positions.{IsLastByte, IsByteAt}
 use Rattle.pc_wire.specs.Frames.{message_limit}
 use Rattle.pc_documents.specs.CheckerAnswers.{CheckerAnswer, outcome, type_shown}
 use Rattle.pc_documents.specs.Agreed.{Agreed}
@@ -147,12 +147,12 @@ once_spoils bytes old (Some d) None a b = absurd (some_none (sym a.2 ∙ b a.0 a
 once_spoils bytes old (Some d) (Some e) a b =
     sym a.2 ∙ (ap (λ m. spoiled_in m old) (some_inj (sym a.1.1 ∙ b.1.1)) ∙ b.2)
 
--- ---- the first byte at a position
+-- ---- the byte at a position
 
-first_bytes : (encoding : Encoding) (text : List ℕ) (position : Position) (byte other : ℕ)
-    → IsFirstByte encoding text position byte → IsFirstByte encoding text position other → byte ≡ other
-first_bytes encoding text position byte other a b = ⊎_elim (λ same. same)
-    (λ apart. ⊎_elim (λ less. absurd (b.first byte less a.has)) (λ more. absurd (a.first other more b.has)) apart)
+last_bytes : (encoding : Encoding) (text : List ℕ) (position : Position) (byte other : ℕ)
+    → IsLastByte encoding text position byte → IsLastByte encoding text position other → byte ≡ other
+last_bytes encoding text position byte other a b = ⊎_elim (λ same. same)
+    (λ apart. ⊎_elim (λ less. absurd (a.last other less b.within b.has)) (λ more. absurd (b.last byte more a.within a.has)) apart)
     (cases_order byte other)
 
 one_byte : (encoding : Encoding) (text : List ℕ) (position : Position) (byte other : Option ℕ)
@@ -160,7 +160,7 @@ one_byte : (encoding : Encoding) (text : List ℕ) (position : Position) (byte o
 one_byte encoding text position None None a b = refl
 one_byte encoding text position None (Some c) a b = absurd (a c b.within b.has)
 one_byte encoding text position (Some c) None a b = absurd (b c a.within a.has)
-one_byte encoding text position (Some c) (Some d) a b = ap Some (first_bytes encoding text position c d a b)
+one_byte encoding text position (Some c) (Some d) a b = ap Some (last_bytes encoding text position c d a b)
 
 module _ (answers : List ℕ → CheckerAnswer → Type 0) (same : IsDetermined answers) where
   -- ---- what is said of a text

@@ -4,7 +4,7 @@ use Rattle.std.specs.Prelude.{◌≡◌, ◌⊎◌, ℕ, Bool, true, false, List
 use Rattle.serde_json.specs.Data.{Data}
 use Rattle.pc_wire.specs.Frames.{IsShort, IsLong}
 use Rattle.pc_documents.specs.declared.checker.CheckOutcome.{CheckOutcome}
-use Rattle.pc_documents.specs.CheckerAnswers.{CheckerAnswer, Agree}
+use Rattle.pc_documents.specs.CheckerAnswers.{CheckerAnswer, AreConsistent}
 use Rattle.pc_session.specs.declared.replies.ErrorCode.TheVariants.{TooLong}
 use Rattle.pc_session.specs.Sessions.{IsTurn, IsUnreadable, Step, forgot}
 use Rattle.pc_session.specs.Shown.{lost_data, IsInStep}
@@ -36,7 +36,7 @@ module _ (answers : List ℕ → CheckerAnswer → Type 0) where
 
   -- answers about a text do not contradict each other, however often it is checked
   abbrev pub IsDetermined : Type 0
-  IsDetermined = (text : List ℕ) (one other : CheckerAnswer) → answers text one → answers text other → Agree one other
+  IsDetermined = (text : List ℕ) (one other : CheckerAnswer) → answers text one → answers text other → AreConsistent one other
 
   -- after any messages from a fresh session, what was sent is in step with the session
   abbrev pub SessionsStayInStep : Type 0

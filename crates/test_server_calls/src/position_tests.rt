@@ -1,5 +1,5 @@
 //! Positions, at characters of each length in UTF-8.
-use pc_position::{Encoding, Mark, Position, mark_after, position_in, position_of};
+use pc_position::{Encoding, Mark, Position, byte_of, mark_after, position_in, position_of};
 use pc_source::read_source;
 use std::test::Fail;
 
@@ -27,6 +27,24 @@ fn counts_from_the_start_of_a_line(rt: HostRuntime) {
     assert_eq!(rt; position_in(text, 11, Encoding::Utf16), at(0, 6));
     assert_eq!(rt; position_in(text, 12, Encoding::Utf16), at(1, 0));
     assert_eq!(rt; position_in(text, 1000, Encoding::Utf16), at(1, 1));
+}
+
+#[test]
+fn finds_where_a_character_begins(rt: HostRuntime) {
+    let text = TEXT.as_bytes();
+    assert_eq!(rt; byte_of(text, Encoding::Utf16, at(0, 2)), Some(3));
+    assert_eq!(rt; byte_of(text, Encoding::Utf16, at(0, 5)), Some(LETTER));
+    assert_eq!(rt; byte_of(text, Encoding::Utf32, at(0, 4)), Some(LETTER));
+    assert_eq!(rt; byte_of(text, Encoding::Utf8, at(0, 7)), Some(7));
+    assert_eq!(rt; byte_of(text, Encoding::Utf16, at(1, 1)), Some(13));
+}
+
+#[test]
+fn finds_no_byte_in_a_pair_or_behind_a_line(rt: HostRuntime) {
+    let text = TEXT.as_bytes();
+    assert_eq!(rt; byte_of(text, Encoding::Utf16, at(0, 4)), None);
+    assert_eq!(rt; byte_of(text, Encoding::Utf16, at(0, 7)), None);
+    assert_eq!(rt; byte_of(text, Encoding::Utf32, at(2, 0)), None);
 }
 
 #[test]
