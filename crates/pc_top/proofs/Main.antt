@@ -1,7 +1,13 @@
 -- The main theorem, of what the parts ensure.
-use Rattle.std.proofs.Common.{ℕ, List, Contains, ◌↔◌}
+use Rattle.std.proofs.Common.{◌≡◌, ℕ, List, Contains, ◌↔◌, Result}
+use Rattle.std.specs.Prelude.{IfErr, IsErrAnd}
 use Rattle.std.specs.List.{AllByRecursion}
+use Rattle.std.proofs.lemmas.Result.{err_from_is_err_and}
+use Rattle.pc_source.specs.declared.fault.Fault.{Fault}
+use Rattle.pc_source.specs.declared.fault.Fault.TheVariants as fault
+use Rattle.pc_source.specs.declared.fault.Refusal.{Refusal}
 use Rattle.pc_source.specs.declared.place.Place.{Place}
+use Rattle.pc_source.specs.Answers.{OnRefusal}
 use Rattle.pc_tree.specs.declared.code.Finding.{Finding}
 use Rattle.pc_tree.specs.Tree.{Module}
 use Rattle.pc_module_rules.specs.Modules.{IsFinding}
@@ -49,3 +55,8 @@ module _ (bytes : List ℕ) (whole : Module) where
             sound_here rows listed;
         sound_beside_errors = beside_errors whole (row_findings rows) exact;
       }
+
+-- a failed allocation is no refusal
+pub no_refusal : {T : Type 0} (P : Refusal → Type 0) (r : Result T Fault) → IsErrAnd r (λ f. f ≡ fault.OutOfMemory)
+    → IfErr r (OnRefusal P)
+no_refusal P r h = let p = err_from_is_err_and r h in rw (p.1, p.2) tt

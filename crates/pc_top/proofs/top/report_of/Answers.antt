@@ -1,13 +1,13 @@
-use Rattle.std.proofs.Common.{◌↔◌, subst, sym, List, ℕ, Contains}
+use Rattle.std.proofs.Common.{◌↔◌, ◌≤◌, length, subst, sym, List, ℕ, Contains}
 use Rattle.pc_tree.specs.declared.code.Finding.{Finding}
 use Rattle.pc_tree.specs.Tree.{module_of}
-use Rattle.pc_front.specs.Bytes.{IsModuleOf}
+use Rattle.pc_front.specs.Bytes.{IsModuleOf, IsRefusalOf}
 use Rattle.pc_notes.specs.Notes.{notes_of}
 use Rattle.pc_module_rules.specs.Modules.{IsFinding}
 use Rattle.pc_report.specs.Flows.{FlowEntry}
 use Rattle.pc_report.specs.Report.{Lists, ExplainsRows}
 use Rattle.pc_top.proofs.ExplainedRows.{rows_explained}
-use Rattle.pc_top.proofs.Main.{headline_from}
+use Rattle.pc_top.proofs.Main.{headline_from, no_refusal}
 use Rattle.pc_top.proofs.top.report_of.Goals as goal
 
 pub returns-clause-headline : goal.returns-clause-headline
@@ -28,3 +28,11 @@ returns-clause-headline c =
     c.in_ok-module.ensures.read) found rows exactly lists
     (λ given. rows_explained m notes c.in_ok-flows.flows.items c.in_ok-flows.ensures c.in_ok-found.ensures.flows rows
     given explains)
+
+pub returns-in_err-flows-clause-refused : goal.returns-in_err-flows-clause-refused
+returns-in_err-flows-clause-refused c = no_refusal (IsRefusalOf c.args.bytes.now)
+    c.from_residual-in_err-flows.result c.from_residual-in_err-flows.ensures.1
+
+pub returns-in_err-flows-clause-within : goal.returns-in_err-flows-clause-within
+returns-in_err-flows-clause-within c = no_refusal (λ refusal. refusal.byte ≤ length c.args.bytes.now)
+    c.from_residual-in_err-flows.result c.from_residual-in_err-flows.ensures.1
