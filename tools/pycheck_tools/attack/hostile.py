@@ -44,8 +44,6 @@ KNOWN: Dict[str, Set[str]] = {
     "a part of an unknown name as every item": {"MiB"},
     "an attribute of an unknown name as every item": {"MiB"},
     "flows into a wide tuple": {"MiB"},
-    # This one takes nearly as many seconds as it may
-    "methods of a large union": {"seconds"},
 }
 HEADER = "from __future__ import annotations\n"
 DATACLASS = HEADER + "from dataclasses import dataclass\n"
