@@ -1,5 +1,5 @@
 -- The types of labels and of flows by place are such as a store of boxes may give.
-use Rattle.std.proofs.Common.{◌≡◌, ◌≤◌, List, [], ◌∷◌, Bor, Bool as Test, true, false, Option, Some, None, refl, sym, subst}
+use Rattle.std.proofs.Common.{◌≡◌, ◌≤◌, List, [], ◌∷◌, Bor, Bool as Test, true, false, Option, Some, None, ap, refl, sym, subst}
 use Rattle.std.specs.Prelude.{IfSome, if◌then◌else◌, box_value, option_map}
 use Rattle.pc_source.specs.declared.place.Place.{Place}
 use Rattle.pc_types.specs.Tree.{Tree}
@@ -53,6 +53,7 @@ pub pair_given : (o : Option (Bor BoxType × Bor BoxType)) (f : Option (Bor Note
 pair_given None f e h = tt
 pair_given (Some t) None e h = let never : ⊥ = cc in absurd never
 pair_given (Some t) (Some x) e h =
-    let from : tree_of t.0.now ≡ shared_tree x.now.from = cc in
-    let into : tree_of t.1.now ≡ shared_tree x.now.into = cc in
+    let same : pair_shown t ≡ flow_types x.now = cc in
+    let from : tree_of t.0.now ≡ shared_tree x.now.from = ap (λ (y : Tree × Tree). y.0) same in
+    let into : tree_of t.1.now ≡ shared_tree x.now.into = ap (λ (y : Tree × Tree). y.1) same in
     (given_by_tree t.0.now _ from (h.from.small, h.from.normal), given_by_tree t.1.now _ into (h.into.small, h.into.normal))
