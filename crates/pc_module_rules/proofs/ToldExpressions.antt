@@ -11,7 +11,6 @@ use Rattle.pc_types.specs.Tree.{Tree, NoneType}
 use Rattle.pc_types.specs.WellFormed.{IsWellFormed}
 use Rattle.pc_flow.specs.Environment.{Env}
 use Rattle.pc_flow.specs.WellFormed.{AreWellFormed, IsWellFormedEnv, IsWellFormedIfAny}
-use Rattle.pc_notes.specs.Notes.{Note}
 use Rattle.pc_rules.specs.Operations.{Label, clean, StoreOffer, store_codes, store_index_types, stored_types, only_type}
 use Rattle.pc_rules.specs.Calls.{CallOffer, arguments_given, call_label, positional_seat, named_seat, is_range}
 use Rattle.pc_rules.specs.Calls.{range_item, range_offers}
