@@ -11,6 +11,7 @@ use Rattle.pc_tree.proofs.Among.{none_among, first_among, later_among, among_fir
 use Rattle.pc_types.specs.Tree.{Tree}
 use Rattle.pc_notes.specs.Notes.{Note, told, typed, named, plain_note, is_same_place, is_finding_at, or_else, flow_or}
 use Rattle.pc_notes.specs.Notes.{flow_noted}
+use Rattle.pc_module_rules.specs.FirstAt.{first_flow_at}
 use Rattle.pc_module_rules.specs.FlowsOfExpressions.{CodedFlow}
 use Rattle.pc_module_rules.specs.FlowsOfModules.{IsFirstAt}
 use Rattle.pc_module_rules.proofs.Places.{same_place, own_place}
@@ -45,13 +46,8 @@ if_or false o a c = refl
 -- ---- the first flow at a place
 
 -- a flow at this place, else what comes after it
-abbrev pub at_or : Place → CodedFlow → (rest : Pair) → Pair
-at_or p d rest = if is_same_place p d.place then or_else (Some (d.from, d.into)) rest else rest
-
--- the two types of the first flow at a place
-abbrev pub first_at : Place → List CodedFlow → Pair
-first_at p [] = None
-first_at p (d ∷ ds) = at_or p d (first_at p ds)
+abbrev at_or : Place → CodedFlow → (rest : Pair) → Pair
+at_or p d rest = if is_same_place p d.place then Some (d.from, d.into) else rest
 
 pub noted_append : (c : Code) (p : Place) (xs ys : List Note)
     → flow_noted c p (xs ++ ys) ≡ or_else (flow_noted c p xs) (flow_noted c p ys)
@@ -61,16 +57,17 @@ noted_append c p (told f flow ∷ ns) ys = ap (flow_or c p (told f flow)) (noted
 noted_append c p (typed shown q t ∷ ns) ys = noted_append c p ns ys
 noted_append c p (named q d t ∷ ns) ys = noted_append c p ns ys
 
-first_append : (p : Place) (ds es : List CodedFlow) → first_at p (ds ++ es) ≡ or_else (first_at p ds) (first_at p es)
+first_append : (p : Place) (ds es : List CodedFlow) → first_flow_at p (ds ++ es)
+    ≡ or_else (first_flow_at p ds) (first_flow_at p es)
 first_append p [] es = refl
 first_append p (d ∷ ds) es = ap (at_or p d) (first_append p ds es)
-    ∙ if_or (is_same_place p d.place) (Some (d.from, d.into)) (first_at p ds) (first_at p es)
+    ∙ if_or (is_same_place p d.place) (Some (d.from, d.into)) (first_flow_at p ds) (first_flow_at p es)
 
 -- ---- notes that tell of just these flows
 
 -- at each place notes tell of the first of these flows there as that with a code, and of none where there is none
 pub record Tells (code : Code) (notes : List Note) (flows : List CodedFlow) : Type 0 where
-  pub is : (p : Place) → flow_noted code p notes ≡ first_at p flows
+  pub is : (p : Place) → flow_noted code p notes ≡ first_flow_at p flows
 
 pub tell_none : {code : Code} → Tells code [] []
 tell_none {code} = record { is = λ p. refl }
@@ -84,7 +81,7 @@ tell_then {code} xs ys ds es h k =
 pub tell_behind : {code : Code} (xs ys : List Note) (ds : List CodedFlow) → Tells code xs ds → Tells code ys []
     → Tells code (xs ++ ys) ds
 tell_behind {code} xs ys ds h k =
-    record { is = λ p. noted_append code p xs ys ∙ both_or (h.is p) (k.is p) ∙ or_none (first_at p ds) }
+    record { is = λ p. noted_append code p xs ys ∙ both_or (h.is p) (k.is p) ∙ or_none (first_flow_at p ds) }
 
 pub tell_plain : {code : Code} (fs : List Finding) → Tells code (map plain_note fs) []
 tell_plain {code} [] = tell_none
@@ -102,7 +99,7 @@ tell_grouped {code} xs a b c h = subst (Tells code xs) (sym (append_assoc a b c)
 -- more notes tell of just these flows besides
 abbrev pub Grows : Code → (found after : List Note) → List CodedFlow → Type 0
 Grows code found after flows = (p : Place) → flow_noted code p after ≡ or_else (flow_noted code p found)
-    (first_at p flows)
+    (first_flow_at p flows)
 
 pub grow_none : (code : Code) (found : List Note) → Grows code found found []
 grow_none code found = λ p. sym (or_none (flow_noted code p found))
@@ -114,8 +111,8 @@ grow code found xs ds h = λ p. noted_append code p found xs ∙ ap (λ (o : Pai
 
 pub grow_then : (code : Code) (f g h : List Note) (ds es : List CodedFlow) → Grows code f g ds → Grows code g h es
     → Grows code f h (ds ++ es)
-grow_then code f g h ds es a b = λ p. b p ∙ ap (λ (o : Pair). or_else o (first_at p es)) (a p)
-    ∙ or_assoc (flow_noted code p f) (first_at p ds) (first_at p es)
+grow_then code f g h ds es a b = λ p. b p ∙ ap (λ (o : Pair). or_else o (first_flow_at p es)) (a p)
+    ∙ or_assoc (flow_noted code p f) (first_flow_at p ds) (first_flow_at p es)
     ∙ sym (ap (λ (o : Pair). or_else (flow_noted code p f) o) (first_append p ds es))
 
 -- with more before
@@ -123,12 +120,18 @@ pub grow_behind : (code : Code) (f xs h : List Note) (es : List CodedFlow) → T
     → Grows code (f ++ xs) h es → Grows code f h es
 grow_behind code f xs h es a b = grow_then code f (f ++ xs) h [] es (grow code f xs [] a) b
 
+-- with others after them that tell of none
+pub grow_after : (code : Code) (found after xs : List Note) (ds : List CodedFlow) → Grows code found after ds
+    → Tells code xs [] → Grows code found (after ++ xs) ds
+grow_after code found after xs ds h k = λ p. noted_append code p after xs
+    ∙ ap (λ (o : Pair). or_else (flow_noted code p after) o) (k.is p) ∙ or_none (flow_noted code p after) ∙ h p
+
 -- notes that tell of just these flows, with more after them
 pub tell_grown : (code : Code) (found after : List Note) (ds es : List CodedFlow) → Tells code found ds
     → Grows code found after es
     → Tells code after (ds ++ es)
 tell_grown code found after ds es h k = record {
-  is = λ p. k p ∙ ap (λ (o : Pair). or_else o (first_at p es)) (h.is p) ∙ sym (first_append p ds es);
+  is = λ p. k p ∙ ap (λ (o : Pair). or_else o (first_flow_at p es)) (h.is p) ∙ sym (first_append p ds es);
 }
 
 -- of flows in other brackets
@@ -152,22 +155,22 @@ module _ (p : Place) (s t : Tree) where
   here = record { place = p; from = s; into = t }
 
   first_of_order : (before behind : List CodedFlow) → ((d : CodedFlow) → Contains before d → ¬ (d.place ≡ p))
-      → first_at p (before ++ (here ∷ behind)) ≡ Some (s, t)
-  first_of_order [] behind none = ap (λ (b : Test). if b then or_else (Some (s, t)) (first_at p behind) else first_at p
+      → first_flow_at p (before ++ (here ∷ behind)) ≡ Some (s, t)
+  first_of_order [] behind none = ap (λ (b : Test). if b then Some (s, t) else first_flow_at p
       behind) (own_place p)
   first_of_order (d ∷ ds) behind none =
-      let rest = first_at p (ds ++ (here ∷ behind)) in
-      ap (λ (b : Test). if b then or_else (Some (d.from, d.into)) rest else rest)
+      let rest = first_flow_at p (ds ++ (here ∷ behind)) in
+      ap (λ (b : Test). if b then Some (d.from, d.into) else rest)
       (other_place p d.place (none d (first_among d ds)))
       ∙ first_of_order ds behind (λ e h. none e (later_among d ds e h))
 
-  pub first_is : (flows : List CodedFlow) → IsFirstAt p s t flows → first_at p flows ≡ Some (s, t)
-  first_is flows h = ap (first_at p) h.order ∙ first_of_order h.before h.behind h.none_before
+  pub first_is : (flows : List CodedFlow) → IsFirstAt p s t flows → first_flow_at p flows ≡ Some (s, t)
+  first_is flows h = ap (first_flow_at p) h.order ∙ first_of_order h.before h.behind h.none_before
 
   -- the flow at the head, or one after it
   first_or : (d : CodedFlow) (ds : List CodedFlow) (b : Test) → is_same_place p d.place ≡ b
-      → (first_at p ds ≡ Some (s, t) → IsFirstAt p s t ds)
-      → (if b then or_else (Some (d.from, d.into)) (first_at p ds) else first_at p ds) ≡ Some (s, t)
+      → (first_flow_at p ds ≡ Some (s, t) → IsFirstAt p s t ds)
+      → (if b then Some (d.from, d.into) else first_flow_at p ds) ≡ Some (s, t)
       → IsFirstAt p s t (d ∷ ds)
   first_or d ds true e rest is =
       let types : (d.from, d.into) ≡ (s, t) = ap (λ (o : Pair). unwrap_or o (s, t)) is in
@@ -190,6 +193,6 @@ module _ (p : Place) (s t : Tree) where
         ];
       }
 
-  pub is_first : (flows : List CodedFlow) → first_at p flows ≡ Some (s, t) → IsFirstAt p s t flows
+  pub is_first : (flows : List CodedFlow) → first_flow_at p flows ≡ Some (s, t) → IsFirstAt p s t flows
   is_first [] is = absurd (cc is)
   is_first (d ∷ ds) is = first_or d ds (is_same_place p d.place) refl (is_first ds) is

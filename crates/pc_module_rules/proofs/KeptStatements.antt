@@ -1,6 +1,7 @@
--- Where a walk over statements that keeps types comes to: to the declared types and the environments of lawful labels.
+-- Where a walk over statements comes to, whether it keeps types or not: to the declared types and the environments of
+-- lawful labels.
 use Rattle.std.proofs.Common.{◌≡◌, List, ◌++◌, refl, sym, ap, ◌∙◌, subst}
-use Rattle.std.specs.Prelude.{true, false, Option, Some, None}
+use Rattle.std.specs.Prelude.{Bool as Test, false, Option, Some, None}
 use Rattle.pc_tree.specs.declared.code.Finding.{Finding}
 use Rattle.pc_tree.specs.Tree.{Stmt, Stmts, no_stmts, more_stmts}
 use Rattle.pc_tree.specs.Stopping.{bound_by, bound_by_stmt}
@@ -17,13 +18,13 @@ use Rattle.pc_module_rules.specs.Laws.Walks.{TableFits, EnvFits, OutFits, WalkSa
 use Rattle.pc_module_rules.proofs.WalkedStatements.{stmt_says, suite_says}
 use Rattle.pc_module_rules.proofs.KeptWalks.{SameWalk, standing, same_step, same_suite}
 
-module _ (setting : Surroundings) (returned : Tree) (kr : IsWellFormed setting.context.bases returned)
-    (declared : List Tree) where
+module _ (keeps : Test) (setting : Surroundings) (returned : Tree)
+    (kr : IsWellFormed setting.context.bases returned) (declared : List Tree) where
   open setting use {whole as m, context as ctx}
 
-  -- the context of the statements, where types are kept, and where they are not
+  -- the context of the statements, where types may be kept, and where they are not
   abbrev kept : BodyContext
-  kept = standing m ctx returned true
+  kept = standing m ctx returned keeps
 
   abbrev bare : BodyContext
   bare = body_context_in setting returned
@@ -37,7 +38,7 @@ module _ (setting : Surroundings) (returned : Tree) (kr : IsWellFormed setting.c
   abbrev LawfulThere : NamesBound → Env → (b : Stmts) → SuiteLabels b → Option Env → Type 0
   LawfulThere seen env b labels out = LawfulSuite m ctx declared returned seen env b labels out
 
-  -- the walk that keeps types has come to the environment of the labels, from this table to one that fits
+  -- the walk has come to the environment of the labels, from this table to one that fits
   pub record Stands (seen : NamesBound) (table : DeclaredTypes) (w : Walk) (out : Option Env) : Type 0 where
     pub fits : TableHere seen w.table
     pub grows : (env : Env) → EnvFits setting declared table env → EnvFits setting declared w.table env
@@ -64,7 +65,7 @@ module _ (setting : Surroundings) (returned : Tree) (kr : IsWellFormed setting.c
   stmt_stands seen table env broken found t f kb s labels out l =
       stands (texts (bound_by_stmt s) ++ seen) table broken found (step kept table (Some env) broken found s)
       (step bare table (Some env) broken found s) out _ _
-      (same_step m ctx returned true false table (Some env) broken found found s)
+      (same_step m ctx returned keeps false table (Some env) broken found found s)
       (stmt_says setting returned kr declared seen table env broken found t f kb s labels out l)
 
   pub suite_stands : (seen : NamesBound) (w : Walk) (env : Env) → w.env ≡ Some env → TableHere seen w.table
@@ -73,7 +74,7 @@ module _ (setting : Surroundings) (returned : Tree) (kr : IsWellFormed setting.c
       → Stands (texts (bound_by b) ++ seen) w.table (walk_suite kept w b) out
   suite_stands seen w env e t f kb b labels out l =
       stands (texts (bound_by b) ++ seen) w.table w.broken w.found (walk_suite kept w b) (walk_suite bare w b) out
-      _ _ (same_suite m ctx returned true false w w (record { table = refl; env = refl; broken = refl }) b)
+      _ _ (same_suite m ctx returned keeps false w w (record { table = refl; env = refl; broken = refl }) b)
       (suite_says setting returned kr declared seen w env e t f kb b labels out l)
 
   -- where no run comes, nothing is noted

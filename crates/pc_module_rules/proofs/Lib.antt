@@ -27,6 +27,8 @@ pub mod OneStatement
 pub mod Places
 pub mod PlainCodes
 pub mod RangeNames
+pub mod ReadConstants
+pub mod ReadExpressions
 pub mod ReturnedValues
 pub mod RightFlows
 pub mod RightModules

@@ -61,7 +61,7 @@ use Rattle.pc_module_rules.proofs.NamelessNotes.{read_nameless}
 use Rattle.pc_module_rules.proofs.NamedNotes.{Names, name_both, name_after_none, name_more, NamesMore, more_none}
 use Rattle.pc_module_rules.proofs.NamedNotes.{more_nameless, more_then}
 use Rattle.pc_module_rules.proofs.NamedStatements.{suite_names}
-use Rattle.pc_module_rules.proofs.TypedModules.{constant_is, type_well_formed}
+use Rattle.pc_module_rules.proofs.ReadConstants.{constant_is, type_well_formed}
 
 module _ (m : Module) where
   abbrev bases : Bases

@@ -247,7 +247,7 @@ module _ (setting : Surroundings) (returned : Tree) (kr : IsWellFormed setting.c
   behind_names : (b : Test) (seen : NamesBound) (env : Env) (table : DeclaredTypes) (found : List Note) (s : Stmt)
       (rest : Stmts) (s0 : StmtLabels s) (r : Behind b (Following (SuiteLabels rest))) (out : Option Env) (v : Walk)
       → ((o : Option Env) → LawfulHere seen env s s0 o
-      → Stands setting returned kr declared (texts (bound_by_stmt s) ++ seen) table v o
+      → Stands true setting returned kr declared (texts (bound_by_stmt s) ++ seen) table v o
       × NamesMore found v.found (names_of_stmt s s0))
       → SuiteNames (texts (bound_by_stmt s) ++ seen) rest
       → BehindRule b r (λ x. LawfulHere seen env s s0 (Some x.env)
@@ -265,7 +265,7 @@ module _ (setting : Surroundings) (returned : Tree) (kr : IsWellFormed setting.c
       subst (λ (rows : List NameAt). NamesMore found (walk_suite kept v rest).found rows)
       (sym (append-nil (names_of_stmt s s0)))
       (subst (λ (xs : List Note). NamesMore found xs (names_of_stmt s s0))
-      (sym (none_noted setting returned kr declared v f.0.env_is rest)) f.1)
+      (sym (none_noted true setting returned kr declared v f.0.env_is rest)) f.1)
 
   -- a walk over branches fits the labels, and names just the names under them
   record ForkNames (seen : NamesBound) (found : List Note) (w : BranchesResult) (last : Env) (rows : List NameAt)
@@ -412,7 +412,7 @@ module _ (setting : Surroundings) (returned : Tree) (kr : IsWellFormed setting.c
         (behind_names (completes s) seen env w.table w.found s rest labels.first labels.behind out
         (step kept w.table (Some env) w.broken w.found s)
         (λ o y. (
-          stmt_stands setting returned kr declared seen w.table env w.broken w.found t f kb s labels.first o y,
+          stmt_stands true setting returned kr declared seen w.table env w.broken w.found t f kb s labels.first o y,
           stmt_names seen w.table env w.broken w.found t f kb s labels.first o y,
         ))
         (suite_names (texts (bound_by_stmt s) ++ seen) rest) l)
@@ -441,7 +441,7 @@ module _ (setting : Surroundings) (returned : Tree) (kr : IsWellFormed setting.c
           broken = w.broken;
           found = w.found ++ xs;
         } in
-        let body = suite_stands setting returned kr declared seen start
+        let body = suite_stands true setting returned kr declared seen start
         (narrow ctx.bases declared ctx.resolve true c env) (ap Some (sym yes)) t
         (truth_fits setting declared w.table kt true c env f) kb b labels.body labels.out l.body in
         let named = suite_names seen b start (narrow ctx.bases declared ctx.resolve true c env) (ap Some (sym yes)) t

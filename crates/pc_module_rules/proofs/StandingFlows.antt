@@ -10,14 +10,15 @@ use Rattle.pc_types.specs.Tree.{Tree}
 use Rattle.pc_notes.specs.Notes.{ExplainsFlow}
 use Rattle.pc_rules.specs.Labels.{is_of_scopes}
 use Rattle.pc_module_rules.specs.Computed.DynamicFlows.{computed_flow, dynamic_flow}
+use Rattle.pc_module_rules.specs.FirstAt.{first_flow_at}
 use Rattle.pc_module_rules.specs.Modules.{Labelling, IsLawful, IsFinding}
 use Rattle.pc_module_rules.proofs.LabelledModule.{every_module_has_a_labelling}
 use Rattle.pc_module_rules.specs.FlowsOfModules.{FlowsWith, HasFlow, coded_flows}
 use Rattle.pc_module_rules.specs.Laws.Flows.{ExplainsPlace, DynamicFlowsAreFound}
 use Rattle.pc_module_rules.specs.Laws.Flows.{DynamicFlowsAreDynamic, DynamicFlowsAreWellFormed, DynamicFlowsAreUnique}
 use Rattle.pc_module_rules.specs.Laws.Flows.{DynamicFlowsAreComputed, FlowsAreComputed, WrongFlowsAreFound}
-use Rattle.pc_module_rules.specs.Laws.Flows.{WrongFlowsAreWrong, WrongFlowsAreWellFormed}
-use Rattle.pc_module_rules.proofs.FirstFlows.{Pair, first_at, first_is, is_first}
+use Rattle.pc_module_rules.specs.Laws.Flows.{WrongFlowsAreWrong, WrongFlowsAreWellFormed, FirstFlowsAreNoted}
+use Rattle.pc_module_rules.proofs.FirstFlows.{Pair, first_is, is_first}
 use Rattle.pc_module_rules.proofs.PlainCodes.{tells_flow}
 use Rattle.pc_module_rules.proofs.RightFlows.{flow_found, flow_dynamic, flow_wrong, flow_well_formed}
 use Rattle.pc_module_rules.proofs.ToldModules.{module_tells}
@@ -25,8 +26,8 @@ use Rattle.pc_module_rules.proofs.ToldModules.{module_tells}
 -- the flow computed with a code at a place is the first flow there under a lawful labelling
 module _ (c : Code) (own : is_of_scopes c ≡ false) where
   computed_is : (m : Module) (labels : Labelling m) → IsLawful m labels → (p : Place)
-      → computed_flow c m p ≡ first_at p (coded_flows c m labels)
-  computed_is m labels l p = (module_tells c own m labels l).is p
+      → computed_flow c m p ≡ first_flow_at p (coded_flows c m labels)
+  computed_is m labels l p = (module_tells c own false m labels l).is p
 
   stands : (m : Module) (p : Place) (s t : Tree) → computed_flow c m p ≡ Some (s, t) ↔ FlowsWith c m p s t
   stands m p s t = (
@@ -48,6 +49,10 @@ module _ (c : Code) (own : is_of_scopes c ≡ false) where
 
 pub all_computed : FlowsAreComputed
 all_computed c own m p s t = stands c own m p s t
+
+-- a walk that keeps types notes the same flows
+pub first_flows_noted : FirstFlowsAreNoted
+first_flows_noted c own m labels l p = (module_tells c own true m labels l).is p
 
 -- ---- dynamic flows
 

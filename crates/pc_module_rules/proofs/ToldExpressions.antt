@@ -1,36 +1,28 @@
 -- The notes of a walk in an expression, of its flows and in the iterable of a `for` hold exactly the flows with a code
--- under lawful labels.
-use Rattle.std.proofs.Common.{◌≡◌, List, [], ◌∷◌, ◌++◌, Option, Some, None, refl, sym, ap, ◌∙◌, subst, append-nil}
-use Rattle.std.proofs.Common.{append_assoc}
+-- under lawful labels, whether types are kept or not.
+use Rattle.std.proofs.Common.{◌≡◌, List, [], ◌∷◌, ◌++◌, Option, Some, None, sym, ap, ◌∙◌, subst}
 use Rattle.std.specs.Prelude.{Bool as Test, true, false, if◌then◌else◌}
 use Rattle.pc_source.specs.declared.place.Place.{Place}
 use Rattle.pc_tree.specs.declared.code.Code.{Code}
 use Rattle.pc_tree.specs.Depth.{place_of}
 use Rattle.pc_tree.specs.Tree.{Name, Expr, Exprs, Keywords, name, call, Target, to_name, to_attribute, to_index}
 use Rattle.pc_scope.specs.Expressions.{is_instance_test}
-use Rattle.pc_types.specs.Tree.{Tree, Any, Int, Object, NoneType}
+use Rattle.pc_types.specs.Tree.{Tree, NoneType}
 use Rattle.pc_types.specs.WellFormed.{IsWellFormed}
-use Rattle.pc_types.specs.Computed.{static_test, assignable_test}
 use Rattle.pc_flow.specs.Environment.{Env}
 use Rattle.pc_flow.specs.WellFormed.{AreWellFormed, IsWellFormedEnv, IsWellFormedIfAny}
-use Rattle.pc_notes.specs.Notes.{Note}
 use Rattle.pc_rules.specs.Operations.{Label, clean, StoreOffer, store_codes, store_index_types, stored_types, only_type}
 use Rattle.pc_rules.specs.Calls.{CallOffer, arguments_given, call_label, positional_seat, named_seat, is_range}
-use Rattle.pc_rules.specs.Calls.{range_item, range_offers, range_signature}
+use Rattle.pc_rules.specs.Calls.{range_item, range_offers}
 use Rattle.pc_rules.specs.Context.{FlowsInto}
 use Rattle.pc_rules.specs.Labels.{FlowLabels, Labels, whole_label, type_of, is_of_scopes}
 use Rattle.pc_rules.specs.Lawful.{Lawful}
-use Rattle.pc_rules.specs.Computed.Expressions.{labels_of, flows_of}
-use Rattle.pc_rules.specs.Computed.Findings.{codes_at, flows_at, notes_under}
+use Rattle.pc_rules.specs.Computed.Expressions.{flows_of}
+use Rattle.pc_rules.specs.Computed.Findings.{codes_at, flows_at}
 use Rattle.pc_rules.specs.Computed.Standing.{Standing, label_in, finds_in, items_in, keywords_in, arguments_find}
 use Rattle.pc_rules.specs.Computed.Standing.{keywords_find}
 use Rattle.pc_rules.specs.Computed.Ranges.{range_finds}
-use Rattle.pc_rules.proofs.One.{one, items_one, keywords_one}
-use Rattle.pc_rules.proofs.WellFormed.{int_well_formed, object_well_formed, none_well_formed}
-use Rattle.pc_rules.proofs.Called.{CallsWellFormed, builtin_well_formed, called_well_formed, named_well_formed}
-use Rattle.pc_rules.proofs.Called.{positional_well_formed}
-use Rattle.pc_rules.proofs.ComputedFlows.{are_tests}
-use Rattle.pc_rules.proofs.ComputedLawful.{labels_are_lawful, items_lawful, keywords_lawful}
+use Rattle.pc_rules.proofs.WellFormed.{none_well_formed}
 use Rattle.pc_module_rules.specs.StatementLabels.{OptionLabels, TargetLabels}
 use Rattle.pc_module_rules.specs.Statements.{RangeOrValues, LawfulRange, LawfulValues, LawfulIterable, attribute_offers}
 use Rattle.pc_module_rules.specs.Statements.{index_offers, LawfulStore, LawfulReturn, LawfulOption}
@@ -38,52 +30,44 @@ use Rattle.pc_module_rules.specs.Laws.Labellings.{Surroundings}
 use Rattle.pc_module_rules.specs.Computed.Statements.{DeclaredTypes, type_table, BodyContext, attribute_stores, index_stores}
 use Rattle.pc_module_rules.specs.Computed.Statements.{stored_finds, store_finds, iterable_finds, option_finds}
 use Rattle.pc_module_rules.specs.Computed.Statements.{return_finds}
-use Rattle.pc_module_rules.specs.Laws.Walks.{EnvFits, body_context_in}
+use Rattle.pc_module_rules.specs.Laws.Walks.{EnvFits}
 use Rattle.pc_module_rules.proofs.StoredTypes.{fields_stored, items_stored, keys_stored, only_well_formed}
-use Rattle.pc_module_rules.proofs.WalkedTables.{types_well_formed}
-use Rattle.pc_module_rules.proofs.WalkedExpressions.{here, ExpressionTold, told, flows_told}
-use Rattle.pc_module_rules.specs.FlowsOfExpressions.{coded_at, coded_in}
+use Rattle.pc_module_rules.proofs.WalkedExpressions.{told, flows_told}
+use Rattle.pc_module_rules.specs.FlowsOfExpressions.{coded_at, coded_in, coded_in_arguments}
+use Rattle.pc_module_rules.specs.FlowsOfExpressions.{coded_in_keywords}
 use Rattle.pc_module_rules.specs.FlowsOfStatements.{coded_in_option, coded_in_value, coded_in_target}
-use Rattle.pc_module_rules.proofs.FirstFlows.{Tells, tell_none, tell_then, tell_grouped}
-use Rattle.pc_module_rules.proofs.ToldFlows.{tell_codes, tell_flows, tell_expression}
+use Rattle.pc_module_rules.proofs.FirstFlows.{Tells, tell_none, tell_then, tell_behind, tell_grouped}
+use Rattle.pc_module_rules.proofs.KeptWalks.{standing}
+use Rattle.pc_module_rules.proofs.ReadExpressions.{found_is, label_is, range_read}
+use Rattle.pc_module_rules.proofs.ToldFlows.{tell_codes, tell_flows, tell_arguments, tell_keywords, tell_expression}
 
-module _ (code : Code) (own : is_of_scopes code ≡ false) (setting : Surroundings) (returned : Tree)
+module _ (code : Code) (own : is_of_scopes code ≡ false) (keeps : Test) (setting : Surroundings) (returned : Tree)
     (kr : IsWellFormed setting.context.bases returned) (declared : List Tree) (table : DeclaredTypes)
     (kt : IsWellFormedEnv setting.context.bases table) (env : Env)
     (h : EnvFits setting declared table env) where
   open setting use {whole as m, context as ctx, context_well_formed as ck}
 
   abbrev context : BodyContext
-  context = body_context_in setting returned
+  context = standing m ctx returned keeps
 
   abbrev at_env : Standing
-  at_env = here setting declared table kt env h
-
-  ds : AreWellFormed ctx.bases (type_table table)
-  ds = types_well_formed ctx.bases table kt
+  at_env = record { context = ctx; declared = type_table table; env = env; keeps = keeps }
 
   -- ---- expressions
 
-  abbrev Reads : (want : Option Tree) (e : Expr) → Labels e → Type 0
-  Reads want e labels = ExpressionTold setting declared table kt env h want e labels
+  label_read : (want : Option Tree) → IsWellFormedIfAny ctx.bases want → (e : Expr) (labels : Labels e)
+      → Lawful ctx declared env want e labels → label_in at_env want e ≡ whole_label e labels
+  label_read want kw e labels l = label_is keeps setting declared table kt env h want kw e labels l
 
-  read : (want : Option Tree) → IsWellFormedIfAny ctx.bases want → (e : Expr) (labels : Labels e)
-      → Lawful ctx declared env want e labels → Reads want e labels
-  read want kw e labels l = told setting declared table kt env h want kw e labels l
-
-  -- the findings computed in an expression are those under its lawful labels
-  found_is : (want : Option Tree) → IsWellFormedIfAny ctx.bases want → (e : Expr) (labels : Labels e)
-      → Lawful ctx declared env want e labels → finds_in at_env want e ≡ notes_under false e labels
-  unfolding finds_in
-  found_is want kw e labels l =
-      let computed = labels_of ctx (type_table table) env want e in
-      let k = labels_are_lawful ctx (type_table table) env want e ck ds h.well_formed kw in
-      ap (notes_under false e) (sym (one ctx declared (type_table table) env h.same want e labels computed l k.0))
+  type_formed : (want : Option Tree) → IsWellFormedIfAny ctx.bases want → (e : Expr) (labels : Labels e)
+      → Lawful ctx declared env want e labels → IsWellFormed ctx.bases (type_of e labels)
+  type_formed want kw e labels l = (told setting declared table kt env h want kw e labels l).well_formed
 
   pub tell_in : (want : Option Tree) → IsWellFormedIfAny ctx.bases want → (e : Expr) (labels : Labels e)
       → Lawful ctx declared env want e labels → Tells code (finds_in at_env want e) (coded_in code e labels)
-  tell_in want kw e labels l = subst (λ xs. Tells code xs (coded_in code e labels)) (sym (found_is want kw e labels l))
-      (tell_expression code own e labels)
+  tell_in want kw e labels l = subst (λ xs. Tells code xs (coded_in code e labels))
+      (sym (found_is keeps setting declared table kt env h want kw e labels l))
+      (tell_expression code own keeps e labels)
 
   -- its flows into several types
   pub tell_flowing : (want : Option Tree) (e : Expr) (labels : Labels e) (ts : List Tree) (flows : FlowLabels)
@@ -92,9 +76,9 @@ module _ (code : Code) (own : is_of_scopes code ≡ false) (setting : Surroundin
       → Tells code (flows_at (place_of e) (flows_of ctx.bases (label_in at_env want e) ts))
       (coded_at code (place_of e) flows)
   tell_flowing want e labels ts flows kw l ks fl =
-      let v = read want kw e labels l in
-      let is : flows_of ctx.bases (label_in at_env want e) ts ≡ flows = ap (λ x. flows_of ctx.bases x ts) v.label
-      ∙ flows_told setting (whole_label e labels) ts flows v.well_formed ks fl in
+      let is : flows_of ctx.bases (label_in at_env want e) ts ≡ flows = ap (λ x. flows_of ctx.bases x ts)
+      (label_read want kw e labels l)
+      ∙ flows_told setting (whole_label e labels) ts flows (type_formed want kw e labels l) ks fl in
       subst (λ fs. Tells code (flows_at (place_of e) fs) (coded_at code (place_of e) flows)) (sym is)
       (tell_flows code own (place_of e) flows)
 
@@ -113,65 +97,40 @@ module _ (code : Code) (own : is_of_scopes code ≡ false) (setting : Surroundin
 
   -- a call of `range`
   module _ (p : Place) (n : Name) (args : Exprs) (kws : Keywords) where
+    abbrev range : Expr
+    range = call p (name n) args kws
+
     abbrev offers : List CallOffer
     offers = range_offers (arguments_given args kws)
 
-    -- the labels that the walk has for it
-    abbrev range_labels : Labels (call p (name n) args kws)
-    range_labels = record {
-      here = call_label ctx.bases offers;
-      callee = clean Any;
-      second = None;
-      arguments = items_in at_env (positional_seat offers) args;
-      keywords = keywords_in at_env (named_seat offers) [] kws;
-    }
-
-    moved : (a k c : List Note) → (a ++ (k ++ [])) ++ c ≡ a ++ (k ++ c)
-    moved a k c = append_assoc a (k ++ []) c ∙ ap (λ x. a ++ (x ++ c)) (append-nil k)
-
-    range_listed : notes_under false (call p (name n) args kws) range_labels ≡ range_finds at_env p (name n) args kws
+    tell_range : (labels : Labels range) → LawfulRange m ctx declared env (name n) args kws p labels
+        → Tells code (range_finds at_env p (name n) args kws) (coded_in code range labels)
     unfolding arguments_find keywords_find
-    range_listed = moved (arguments_find at_env (is_instance_test (name n) args kws) (positional_seat offers) args)
-        (keywords_find at_env (named_seat offers) [] kws) (codes_at p (call_label ctx.bases offers).codes)
+    tell_range labels l =
+        let read = range_read keeps setting declared table kt env h p n args kws labels l in
+        let seat = positional_seat offers in
+        let named = named_seat offers in
+        let is_test = is_instance_test (name n) args kws in
+        let at_call = codes_at p (call_label ctx.bases offers).codes in
+        let ds = coded_in_arguments code is_test args labels.arguments in
+        let es = coded_in_keywords code kws labels.keywords in
+        let by_position : Tells code (arguments_find at_env is_test seat args) ds = subst
+        (λ x. Tells code (arguments_find at_env is_test seat args) (coded_in_arguments code is_test args x))
+        (sym read.by_position) (tell_arguments code own keeps is_test args (items_in at_env seat args)) in
+        let by_name : Tells code (keywords_find at_env named [] kws) es = subst
+        (λ x. Tells code (keywords_find at_env named [] kws) (coded_in_keywords code kws x)) (sym read.by_name)
+        (tell_keywords code own keeps kws (keywords_in at_env named [] kws)) in
+        tell_then (arguments_find at_env is_test seat args) (keywords_find at_env named [] kws ++ at_call) ds es
+        by_position (tell_behind (keywords_find at_env named [] kws) at_call es by_name
+        (tell_codes code own p (call_label ctx.bases offers).codes))
 
-    range_lawful : (labels : Labels (call p (name n) args kws)) → LawfulRange m ctx declared env (name n) args kws p
-        labels → range_labels ≡ labels
-    range_lawful labels l =
-        let calls : CallsWellFormed ctx.bases offers = (
-          called_well_formed ctx.bases (arguments_given args kws)
-              range_signature (builtin_well_formed ctx.bases (Int ∷ []) Object (int_well_formed ctx.bases, tt)
-              (object_well_formed ctx.bases)),
-          tt,
-        ) in
-        let tests = are_tests ctx.bases ck.smaller in
-        let a = items_lawful ctx (type_table table) ck ds (static_test ctx.bases) (assignable_test ctx.bases) tests env
-        h.well_formed (positional_seat offers) (positional_well_formed ctx.bases offers calls) args in
-        let k = keywords_lawful ctx (type_table table) ck ds (static_test ctx.bases) (assignable_test ctx.bases) tests
-        env h.well_formed (named_seat offers) (named_well_formed ctx.bases offers calls) [] kws in
-        let q = items_one ctx declared (type_table table) env h.same (positional_seat offers) args labels.arguments
-        (items_in at_env (positional_seat offers) args) l.arguments a.lawful in
-        let r = keywords_one ctx declared (type_table table) env h.same (named_seat offers) [] kws labels.keywords
-        (keywords_in at_env (named_seat offers) [] kws) l.keywords k.lawful in
-        λ i. record {
-          here = sym l.here i;
-          callee = sym l.callee i;
-          second = sym l.second i;
-          arguments = sym q i;
-          keywords = sym r i;
-        }
-
-    tell_call : (b : Test) (labels : Labels (call p (name n) args kws)) (item : Label)
+    tell_call : (b : Test) (labels : Labels range) (item : Label)
         → RangeOrValues m ctx declared b (LawfulRange m ctx declared env (name n) args kws p labels
-        × (item ≡ range_item (arguments_given args kws))) (LawfulValues m ctx declared env
-        (call p (name n) args kws) labels item)
-        → Tells code (if b then range_finds at_env p (name n) args kws else finds_in at_env None
-        (call p (name n) args kws))
-        (coded_in code (call p (name n) args kws) labels)
-    tell_call true labels item l =
-        subst (λ xs. Tells code xs (coded_in code (call p (name n) args kws) labels))
-        (sym (ap (notes_under false (call p (name n) args kws)) (range_lawful labels l.0)) ∙ range_listed)
-        (tell_expression code own (call p (name n) args kws) labels)
-    tell_call false labels item l = tell_in None tt (call p (name n) args kws) labels l.0
+        × (item ≡ range_item (arguments_given args kws))) (LawfulValues m ctx declared env range labels item)
+        → Tells code (if b then range_finds at_env p (name n) args kws else finds_in at_env None range)
+        (coded_in code range labels)
+    tell_call true labels item l = tell_range labels l.0
+    tell_call false labels item l = tell_in None tt range labels l.0
 
   pub tell_iterable : (e : Expr) (labels : Labels e) (item : Label) → LawfulIterable m ctx declared env e labels item
       → Tells code (iterable_finds context at_env e) (coded_in code e labels)
@@ -201,25 +160,27 @@ module _ (code : Code) (own : is_of_scopes code ≡ false) (setting : Surroundin
       ++ (coded_in code e labels ++ coded_at code (place_of e) flows))
   tell_store (to_name n) target e labels flows l = absurd l
   tell_store (to_attribute p o field) target e labels flows l =
-      let v = read None tt o target.object l.object in
+      let v = type_formed None tt o target.object l.object in
+      let label = label_read None tt o target.object l.object in
       let os = attribute_offers m ctx declared field.text (type_of o target.object) in
       let ks : AreWellFormed ctx.bases (stored_types os) = fields_stored ctx.bases ctx.classes ck.classes field.text
-      (type_of o target.object) v.well_formed in
+      (type_of o target.object) v in
       let offers : os ≡ attribute_stores context field.text (label_in at_env None o).type =
-      ap (λ x. attribute_stores context field.text x.type) (sym v.label) in
+      ap (λ x. attribute_stores context field.text x.type) (sym label) in
       let ds = coded_in code e labels ++ coded_at code (place_of e) flows in
       subst (λ q. Tells code (finds_in at_env None o ++ stored_finds context at_env q p e)
       (coded_in code o target.object ++ ds)) offers
       (tell_then (finds_in at_env None o) (stored_finds context at_env os p e) (coded_in code o target.object) ds
       (tell_in None tt o target.object l.object) (tell_stored os ks p e labels flows l.value l.flow))
   tell_store (to_index p o i) target e labels flows l =
-      let v = read None tt o target.object l.object in
+      let v = type_formed None tt o target.object l.object in
+      let label = label_read None tt o target.object l.object in
       let os = index_offers m ctx declared (type_of o target.object) in
       let ks : AreWellFormed ctx.bases (stored_types os) = items_stored ctx.bases (type_of o target.object)
-      v.well_formed in
-      let kk = keys_stored ctx.bases (type_of o target.object) v.well_formed in
+      v in
+      let kk = keys_stored ctx.bases (type_of o target.object) v in
       let offers : os ≡ index_stores context (label_in at_env None o).type = ap (λ x. index_stores context x.type)
-      (sym v.label) in
+      (sym label) in
       let xs = finds_in at_env None o in
       let ys = finds_in at_env None i in
       let zs = flows_at (place_of i) (flows_of ctx.bases (label_in at_env None i) (store_index_types os)) in

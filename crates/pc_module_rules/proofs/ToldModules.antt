@@ -1,6 +1,5 @@
--- The notes of a module hold exactly the flows with a code under its lawful labelling: of its signatures, its constants
--- and
--- its bodies.
+-- The notes of a module hold exactly the flows with a code under its lawful labelling, of its signatures, its constants
+-- and its bodies, whether types are kept or not.
 use Rattle.std.proofs.Common.{◌≡◌, ℕ, suc, List, [], ◌∷◌, ◌++◌, length, refl, sym, ap, ◌∙◌, subst, arith, append-nil}
 use Rattle.std.specs.Prelude.{Bool as Test, true, false, Option, Some, None, map, slice_get, codes}
 use Rattle.pc_source.specs.declared.place.Place.{Place}
@@ -30,47 +29,44 @@ use Rattle.pc_class.proofs.ClassesBuilt.{base_here}
 use Rattle.pc_class.proofs.WellFormed.{returned_well_formed}
 use Rattle.pc_flow.specs.Environment.{Env, none_assigned}
 use Rattle.pc_flow.specs.WellFormed.{AreWellFormed}
-use Rattle.pc_notes.specs.Notes.{Note, plain_note}
-use Rattle.pc_rules.specs.Operations.{Label, clean}
-use Rattle.pc_rules.specs.Labels.{FlowLabels, Labels, whole_label, type_of, is_of_scopes}
-use Rattle.pc_rules.specs.Computed.Expressions.{labels_of, flows_of}
-use Rattle.pc_rules.specs.Computed.Findings.{notes_under, flows_at}
-use Rattle.pc_rules.specs.Signatures.{body_context, initializer_context, literal_type, literal_place, LawfulDefault}
+use Rattle.pc_notes.specs.Notes.{Note, plain_note, named}
+use Rattle.pc_rules.specs.Operations.{clean}
+use Rattle.pc_rules.specs.Labels.{FlowLabels, type_of, is_of_scopes}
+use Rattle.pc_rules.specs.Computed.Expressions.{flows_of}
+use Rattle.pc_rules.specs.Computed.Findings.{notes_under, name_after, flows_at}
+use Rattle.pc_rules.specs.Signatures.{body_context, literal_type, literal_place, LawfulDefault}
 use Rattle.pc_rules.specs.Signatures.{binds_name, ParamsLabels, LawfulParams, constant_type, annotated_types}
-use Rattle.pc_rules.specs.Signatures.{first_of_types}
 use Rattle.pc_rules.specs.Computed.Signatures.{constants_of, signatures_find, no_name, ItemsReached, nothing_reached}
 use Rattle.pc_rules.specs.Computed.Signatures.{default_findings, params_findings, def_findings, function_findings}
-use Rattle.pc_rules.specs.Computed.Signatures.{functions_findings, members_findings, base_at, initial, type_of_constant}
+use Rattle.pc_rules.specs.Computed.Signatures.{functions_findings, members_findings, base_at, type_of_constant}
 use Rattle.pc_rules.specs.Computed.Signatures.{value_findings, constant_findings, class_notes, behind, items_findings}
 use Rattle.pc_rules.specs.Computed.Signatures.{params_defaults, method_findings, field_default}
-use Rattle.pc_rules.specs.Computed.Standing.{label_in, finds_in}
 use Rattle.pc_rules.proofs.ComputedFlows.{flows_are_lawful}
-use Rattle.pc_rules.proofs.ComputedLawful.{labels_are_lawful}
-use Rattle.pc_rules.proofs.Contexts.{bodies_well_formed, initializers_well_formed}
-use Rattle.pc_rules.proofs.One.{into_one, one_labelling}
+use Rattle.pc_rules.proofs.Contexts.{bodies_well_formed}
+use Rattle.pc_rules.proofs.One.{into_one}
 use Rattle.pc_module_rules.specs.Modules.{entry_parameters, names_entered, entry_env, FunctionLabels, LawfulFunction}
 use Rattle.pc_module_rules.specs.Modules.{MembersLabels, LawfulMembers, ItemLabels, ModuleItemsLabels, constant_types}
 use Rattle.pc_module_rules.specs.Modules.{BeforeItem, nothing_before, before_next, LawfulItem, LawfulModuleItems}
 use Rattle.pc_module_rules.specs.Modules.{Labelling, IsLawful}
 use Rattle.pc_module_rules.specs.Laws.Labellings.{Surroundings}
 use Rattle.pc_module_rules.specs.Computed.Statements.{Walk, walk_suite, enter_parameters, end_finds, function_finds}
-use Rattle.pc_module_rules.specs.Computed.Modules.{methods_find, bodies_find, module_notes, module_finds}
-use Rattle.pc_module_rules.specs.Laws.Walks.{body_context_in}
+use Rattle.pc_module_rules.specs.Computed.Modules.{methods_find, bodies_find, module_notes}
 use Rattle.pc_module_rules.proofs.LabelledFunctions.{entries_well_formed}
-use Rattle.pc_module_rules.proofs.LabelledModule.{wants_well_formed, first_well_formed, constant_well_formed, one_more}
+use Rattle.pc_module_rules.proofs.LabelledModule.{one_more}
 use Rattle.pc_module_rules.proofs.LocalNames.{names_are}
 use Rattle.pc_module_rules.proofs.WalkedItems.{reached_at, ClassesFrom}
 use Rattle.pc_module_rules.proofs.WalkedModule.{constants_have_types, constants_well_formed}
-use Rattle.pc_module_rules.specs.FlowsOfExpressions.{coded_at, coded_in}
+use Rattle.pc_module_rules.specs.FlowsOfExpressions.{CodedFlow, coded_at, coded_in}
 use Rattle.pc_module_rules.specs.FlowsOfModules.{coded_at_default, coded_in_params, coded_in_members}
 use Rattle.pc_module_rules.specs.FlowsOfModules.{coded_in_methods, coded_in_function, coded_in_item}
 use Rattle.pc_module_rules.specs.FlowsOfModules.{coded_in_body, flows_in_each, coded_flows}
 use Rattle.pc_module_rules.specs.FlowsOfStatements.{coded_in_suite}
 use Rattle.pc_module_rules.proofs.EnteredTables.{all_entered, none_fits, none_assigned_fits}
 use Rattle.pc_module_rules.proofs.FirstFlows.{Tells, tell_none, tell_then, tell_behind, tell_plain, Grows, grow_none}
-use Rattle.pc_module_rules.proofs.FirstFlows.{grow}
-use Rattle.pc_module_rules.proofs.FirstFlows.{grow_then, tell_grown}
+use Rattle.pc_module_rules.proofs.FirstFlows.{grow, grow_then, tell_grown}
+use Rattle.pc_module_rules.proofs.KeptWalks.{standing}
 use Rattle.pc_module_rules.proofs.PlainCodes.{in_both}
+use Rattle.pc_module_rules.proofs.ReadConstants.{found_is, type_well_formed, constant_is, flows_are}
 use Rattle.pc_module_rules.proofs.ToldFlows.{tell_flows, tell_expression}
 use Rattle.pc_module_rules.proofs.ToldStatements.{suite_tells}
 
@@ -81,7 +77,7 @@ literal_well_formed bases (text_literal p d) = (tt, tt, omega arith)
 literal_well_formed bases (truth_literal p v) = (tt, tt, omega arith)
 literal_well_formed bases (none_literal p) = (tt, tt, omega arith)
 
-module _ (code : Code) (own : is_of_scopes code ≡ false) (m : Module) where
+module _ (code : Code) (own : is_of_scopes code ≡ false) (keeps : Test) (m : Module) where
   abbrev bases : Bases
   bases = bases_of m
 
@@ -164,72 +160,33 @@ module _ (code : Code) (own : is_of_scopes code ≡ false) (m : Module) where
 
   -- ---- constants
 
-  module _ (b : BeforeItem) (kb : AreWellFormed bases b.constants) (p : _) (c : Constant)
-      (labels : ItemLabels (constant_item p c)) (all : List Tree)
-      (l : LawfulItem m all b (constant_item p c) labels) where
-    abbrev into : List Tree
-    into = annotated_types m (binds_name b.names c.name) c.annotation
+  constant_tells : (b : BeforeItem) (kb : AreWellFormed bases b.constants) (p : Place) (c : Constant)
+      (labels : ItemLabels (constant_item p c)) (all : List Tree) → LawfulItem m all b (constant_item p c) labels
+      → Tells code (constant_findings m keeps (reached_at b) c) (coded_in_item code (constant_item p c) labels)
+  constant_tells b kb p c labels all l =
+      let into = annotated_types m (binds_name b.names c.name) c.annotation in
+      let notes = map plain_note (option_findings m bases c.annotation) in
+      let q = place_of c.value in
+      let ds = coded_in code c.value labels.value in
+      let es = coded_at code q labels.flows in
+      let found = found_is m b kb p c labels all l keeps in
+      let flows = flows_are m b kb p c labels all l in
+      let is : value_findings m keeps (reached_at b) into c.value ≡ notes_under keeps c.value labels.value
+      ++ flows_at q labels.flows = λ i. found i ++ flows_at q (flows i) in
+      tell_then notes (value_findings m keeps (reached_at b) into c.value) [] (ds ++ es)
+      (tell_plain (option_findings m bases c.annotation))
+      (subst (λ xs. Tells code xs (ds ++ es)) (sym is) (tell_then (notes_under keeps c.value labels.value)
+      (flows_at q labels.flows) ds es (tell_expression code own keeps c.value labels.value)
+      (tell_flows code own q labels.flows)))
 
-    into_well_formed : AreWellFormed bases into
-    into_well_formed = wants_well_formed m (binds_name b.names c.name) c.annotation
-
-    abbrev computed : Labels c.value
-    computed = labels_of (initializer_context m b.constants b.classes) [] [] (first_of_types into) c.value
-
-    is_well_formed : IsWellFormed bases (type_of c.value computed)
-    is_well_formed = (labels_are_lawful (initializer_context m b.constants b.classes) [] [] (first_of_types into)
-        c.value (initializers_well_formed m b.constants b.classes kb) tt tt
-        (first_well_formed m into into_well_formed)).1
-
-    is_computed : computed ≡ labels.value
-    is_computed =
-        let context = initializer_context m b.constants b.classes in
-        let h = labels_are_lawful context [] [] (first_of_types into) c.value
-        (initializers_well_formed m b.constants b.classes kb) tt tt (first_well_formed m into into_well_formed) in
-        one_labelling context [] [] refl (first_of_types into) c.value computed labels.value h.0 l.value
-
-    found_is : finds_in (initial m false b.constants b.classes) (first_of_types into) c.value
-        ≡ notes_under false c.value
-        labels.value
-    unfolding finds_in
-    found_is = ap (notes_under false c.value) is_computed
-
-    label_is : label_in (initial m false b.constants b.classes) (first_of_types into) c.value ≡ whole_label c.value
-        labels.value
-    unfolding label_in
-    label_is = ap (whole_label c.value) is_computed
-
-    type_well_formed : IsWellFormed bases (constant_type m c.annotation (type_of c.value labels.value))
-    type_well_formed = constant_well_formed m c.annotation (type_of c.value labels.value)
-        (subst (λ (x : Labels c.value). IsWellFormed bases (type_of c.value x)) is_computed is_well_formed)
-
-    constant_is : type_of_constant m (reached_at b) c ≡ constant_type m c.annotation (type_of c.value labels.value)
-    constant_is = ap (λ (x : Label). constant_type m c.annotation x.type) label_is
-
-    flows_are : flows_of bases (label_in (initial m false b.constants b.classes) (first_of_types into) c.value) into
-        ≡ labels.flows
-    flows_are =
-        let k = subst (λ (x : Labels c.value). IsWellFormed bases (type_of c.value x)) is_computed is_well_formed in
-        ap (λ (x : Label). flows_of bases x into) label_is
-        ∙ into_one bases (whole_label c.value labels.value) into (flows_of bases (whole_label c.value labels.value)
-        into) labels.flows (flows_are_lawful bases (whole_label c.value labels.value) into (smaller m) k
-        into_well_formed) l.flow
-
-    constant_tells : Tells code (constant_findings m false (reached_at b) c)
-        (coded_in_item code (constant_item p c) labels)
-    constant_tells =
-        let notes = map plain_note (option_findings m bases c.annotation) in
-        let q = place_of c.value in
-        let ds = coded_in code c.value labels.value in
-        let es = coded_at code q labels.flows in
-        let is : value_findings m false (reached_at b) into c.value ≡ notes_under false c.value labels.value
-        ++ flows_at q
-        labels.flows = λ i. found_is i ++ flows_at q (flows_are i) in
-        tell_then notes (value_findings m false (reached_at b) into c.value) [] (ds ++ es)
-        (tell_plain (option_findings m bases c.annotation))
-        (subst (λ xs. Tells code xs (ds ++ es)) (sym is) (tell_then (notes_under false c.value labels.value)
-        (flows_at q labels.flows) ds es (tell_expression code own c.value labels.value)
-        (tell_flows code own q labels.flows)))
+  -- the note of a constant's name tells of no flow
+  named_tells : (found : List Note) (p : Place) (d : Tree) (t : Option Tree) (ds : List CodedFlow) → Tells code found ds
+      → Tells code (name_after keeps found p d t) ds
+  named_tells found p d t ds h = kept keeps
+    where
+      kept : (k : Test) → Tells code (name_after k found p d t) ds
+      kept false = h
+      kept true = tell_behind found (named p d t ∷ []) ds h (record { is = λ q. refl })
 
   -- ---- items
 
@@ -262,7 +219,7 @@ module _ (code : Code) (own : is_of_scopes code ≡ false) (m : Module) where
 
   items_tell : (all : List Tree) (b : BeforeItem) → AreWellFormed bases b.constants → (items : List Item)
       → ClassesFrom m b.classes (classes_in items) → (labels : ModuleItemsLabels items)
-      → LawfulModuleItems m all b items labels → Tells code (items_findings m false (reached_at b) items)
+      → LawfulModuleItems m all b items labels → Tells code (items_findings m keeps (reached_at b) items)
       (flows_in_each (coded_in_item code) items labels)
   items_tell all b kb [] from labels l = tell_none
   items_tell all b kb (constant_item p c ∷ rest) from labels l =
@@ -275,16 +232,19 @@ module _ (code : Code) (own : is_of_scopes code ≡ false) (m : Module) where
         constants = b.constants ++ x ∷ [];
         classes = b.classes;
         bound = λ w. is_one_of w next.names;
-      }) (constant_is b kb p c mk all l.0) in
-      tell_then (constant_findings m false (reached_at b) c) (items_findings m false
-      (behind m (reached_at b) (constant_item p c))
-      rest) (coded_in_item code (constant_item p c) mk) others (constant_tells b kb p c mk all l.0)
-      (subst (λ (x : ItemsReached). Tells code (items_findings m false x rest) others) (sym here)
-      (items_tell all next (one_more m b.constants t kb (type_well_formed b kb p c mk all l.0)) rest from
+      }) (constant_is m b kb p c mk all l.0) in
+      let found = constant_findings m keeps (reached_at b) c in
+      let named_type = type_of_constant m (reached_at b) c in
+      let ds = coded_in_item code (constant_item p c) mk in
+      tell_then (name_after keeps found c.name.place named_type None)
+      (items_findings m keeps (behind m (reached_at b) (constant_item p c)) rest) ds others
+      (named_tells found c.name.place named_type None ds (constant_tells b kb p c mk all l.0))
+      (subst (λ (x : ItemsReached). Tells code (items_findings m keeps x rest) others) (sym here)
+      (items_tell all next (one_more m b.constants t kb (type_well_formed m b kb p c mk all l.0)) rest from
       labels.rest l.1))
   items_tell all b kb (class_item p c ∷ rest) from labels l =
       let next = before_next m b (class_item p c) labels.first in
-      tell_then (class_notes m b.classes c) (items_findings m false (reached_at next) rest)
+      tell_then (class_notes m b.classes c) (items_findings m keeps (reached_at next) rest)
       (coded_in_members code c.members labels.first) (flows_in_each (coded_in_item code) rest labels.rest)
       (class_tells all b p c labels.first (ap (slice_get (classes_in m.items)) (omega arith) ∙ from 0) l.0)
       (items_tell all next kb rest (λ i. ap (slice_get (classes_in m.items)) (omega arith) ∙ from (suc i)) labels.rest
@@ -301,7 +261,7 @@ module _ (code : Code) (own : is_of_scopes code ≡ false) (m : Module) where
 
   module _ (all : List Tree) (ka : AreWellFormed bases all) where
     function_tells : (owner : Owner) (f : FuncDef) (labels : FunctionLabels f) → LawfulFunction m all owner f labels
-        → (found : List Note) → Grows code found (function_finds false m all owner f found)
+        → (found : List Note) → Grows code found (function_finds keeps m all owner f found)
         (coded_in_suite code f.body labels.body)
     function_tells owner f labels l found =
         let names = locals owner f in
@@ -321,9 +281,9 @@ module _ (code : Code) (own : is_of_scopes code ≡ false) (m : Module) where
         let e = all_entered setting ds [] none none (none_fits setting ds) (none_assigned_fits setting ds l.each_local)
         entries (entries_well_formed m owner f) l.entry in
         let w : Walk = record { table = start.0; env = Some start.1; broken = None; found = found } in
-        let body = walk_suite (body_context_in setting (return_type m f)) w f.body in
+        let body = walk_suite (standing m setting.context (return_type m f) keeps) w f.body in
         let at_end = end_finds bases (return_type m f) f.name.place body.env in
-        let told = suite_tells code own setting (return_type m f) (returned_well_formed m f) ds
+        let told = suite_tells code own keeps setting (return_type m f) (returned_well_formed m f) ds
         (names_entered [] entries) f.body
         w env (ap Some e.env_is) e.fits e.env_fits tt labels.body labels.out l.body in
         subst (λ flows. Grows code found (body.found ++ at_end) flows)
@@ -333,13 +293,13 @@ module _ (code : Code) (own : is_of_scopes code ≡ false) (m : Module) where
 
     methods_tell : (base : ClassFacts) (c number : ℕ) (before : List (List ℕ)) (ms : List Member)
         (labels : MembersLabels ms) → LawfulMembers m all base c number before ms labels → (found : List Note)
-        → Grows code found (methods_find false m all c number ms found) (coded_in_methods code ms labels)
+        → Grows code found (methods_find keeps m all c number ms found) (coded_in_methods code ms labels)
     methods_tell base c number before [] labels l found = grow_none code found
     methods_tell base c number before (field_member d ∷ rest) labels l found =
         methods_tell base c number (d.name.text ∷ before) rest labels.rest l.others found
     methods_tell base c number before (method_member f ∷ rest) labels l found =
-        let one = function_finds false m all (owners.Method c number) f found in
-        grow_then code found one (methods_find false m all c (suc number) rest one)
+        let one = function_finds keeps m all (owners.Method c number) f found in
+        grow_then code found one (methods_find keeps m all c (suc number) rest one)
         (coded_in_suite code f.body labels.method.body)
         (coded_in_methods code rest labels.rest)
         (function_tells (owners.Method c number) f labels.method l.method found)
@@ -347,42 +307,43 @@ module _ (code : Code) (own : is_of_scopes code ≡ false) (m : Module) where
 
     bodies_tell : (b : BeforeItem) (items : List Item) (labels : ModuleItemsLabels items)
         → LawfulModuleItems m all b items labels → (found : List Note)
-        → Grows code found (bodies_find false m all b.classes b.functions items found)
+        → Grows code found (bodies_find keeps m all b.classes b.functions items found)
         (flows_in_each (coded_in_body code) items labels)
     bodies_tell b [] labels l found = grow_none code found
     bodies_tell b (constant_item p c ∷ rest) labels l found = bodies_tell
         (before_next m b (constant_item p c) labels.first) rest labels.rest l.1 found
     bodies_tell b (class_item p c ∷ rest) labels l found =
-        let one = methods_find false m all b.classes 0 c.members found in
-        grow_then code found one (bodies_find false m all (suc b.classes) b.functions rest one)
+        let one = methods_find keeps m all b.classes 0 c.members found in
+        grow_then code found one (bodies_find keeps m all (suc b.classes) b.functions rest one)
         (coded_in_methods code c.members labels.first) (flows_in_each (coded_in_body code) rest labels.rest)
         (methods_tell (base_class m b.classes c) b.classes 0 [] c.members labels.first l.0 found)
         (bodies_tell (before_next m b (class_item p c) labels.first) rest labels.rest l.1 one)
     bodies_tell b (def_item p f ∷ rest) labels l found =
-        let one = function_finds false m all (owners.Func b.functions) f found in
-        grow_then code found one (bodies_find false m all b.classes (suc b.functions) rest one)
+        let one = function_finds keeps m all (owners.Func b.functions) f found in
+        grow_then code found one (bodies_find keeps m all b.classes (suc b.functions) rest one)
         (coded_in_suite code f.body labels.first.body) (flows_in_each (coded_in_body code) rest labels.rest)
         (function_tells (owners.Func b.functions) f labels.first l.0 found)
         (bodies_tell (before_next m b (def_item p f) labels.first) rest labels.rest l.1 one)
 
 -- the notes of a module tell of exactly the flows with the code under its lawful labelling
-pub module_tells : (code : Code) → is_of_scopes code ≡ false → (m : Module) (labels : Labelling m) → IsLawful m labels
-    → Tells code (module_finds m []) (coded_flows code m labels)
+pub module_tells : (code : Code) → is_of_scopes code ≡ false → (keeps : Test) (m : Module) (labels : Labelling m)
+    → IsLawful m labels → Tells code (module_notes keeps m []) (coded_flows code m labels)
 unfolding module_notes signatures_find
-module_tells code own m labels l =
+module_tells code own keeps m labels l =
     let all = constant_types m m.items labels in
     let same : constants_of m ≡ all = constants_have_types m labels l in
     let ka : AreWellFormed (bases_of m) all = subst (AreWellFormed (bases_of m)) same (constants_well_formed m) in
-    let first = functions_findings m m.items ++ items_findings m false nothing_reached m.items in
+    let first = functions_findings m m.items ++ items_findings m keeps nothing_reached m.items in
     let ds = flows_in_each (coded_in_function code) m.items labels ++ flows_in_each (coded_in_item code) m.items
     labels in
     let es = flows_in_each (coded_in_body code) m.items labels in
     let signed : Tells code first ds = tell_then (functions_findings m m.items)
-    (items_findings m false nothing_reached m.items)
+    (items_findings m keeps nothing_reached m.items)
     (flows_in_each (coded_in_function code) m.items labels) (flows_in_each (coded_in_item code) m.items labels)
-    (functions_tell code own m all nothing_before m.items labels l)
-    (items_tell code own m all nothing_before tt m.items (λ i. ap (slice_get (classes_in m.items)) (omega arith)) labels
+    (functions_tell code own keeps m all nothing_before m.items labels l)
+    (items_tell code own keeps m all nothing_before tt m.items (λ i. ap (slice_get (classes_in m.items)) (omega arith))
+    labels
     l) in
-    subst (λ ts. Tells code (bodies_find false m ts 0 0 m.items first) (ds ++ es)) (sym same)
-    (tell_grown code first (bodies_find false m all 0 0 m.items first) ds es signed
-    (bodies_tell code own m all ka nothing_before m.items labels l first))
+    subst (λ ts. Tells code (bodies_find keeps m ts 0 0 m.items first) (ds ++ es)) (sym same)
+    (tell_grown code first (bodies_find keeps m all 0 0 m.items first) ds es signed
+    (bodies_tell code own keeps m all ka nothing_before m.items labels l first))

@@ -1,7 +1,7 @@
 -- The notes of a walk over statements hold exactly the flows with a code under lawful labels, besides those noted
--- before.
+-- before, whether types are kept or not.
 use Rattle.std.proofs.Common.{◌≡◌, ℕ, List, [], ◌∷◌, ◌++◌, refl, sym, ap, ◌∙◌, subst, append-nil}
-use Rattle.std.specs.Prelude.{Bool as Test, true, false, unwrap_or, Option, Some, None}
+use Rattle.std.specs.Prelude.{Bool as Test, true, false, unwrap_or, Option, Some, None, is_some}
 use Rattle.pc_source.specs.declared.place.Place.{Place}
 use Rattle.pc_tree.specs.declared.code.Code.{Code}
 use Rattle.pc_tree.specs.declared.code.Code.TheVariants.{E24}
@@ -42,35 +42,62 @@ use Rattle.pc_module_rules.specs.Statements.{LawfulSuite, LawfulBranches}
 use Rattle.pc_module_rules.specs.Laws.Labellings.{Surroundings}
 use Rattle.pc_module_rules.specs.Computed.Statements.{DeclaredTypes, bound_type, known_declared, BodyContext, Walk}
 use Rattle.pc_module_rules.specs.Computed.Statements.{BranchesResult, standing_here, with_way, narrowed_at, head_at}
-use Rattle.pc_module_rules.specs.Computed.Statements.{iterable_finds, bind_label, bind_value, bind_annotated}
+use Rattle.pc_module_rules.specs.Computed.Statements.{iterable_finds, bind_label, bind_value, annotated_binding}
 use Rattle.pc_module_rules.specs.Computed.Statements.{annotation_finds, bound_name, bind_item, store_finds}
 use Rattle.pc_module_rules.specs.Computed.Statements.{assign_target, option_finds, return_finds, behind_loop}
-use Rattle.pc_module_rules.specs.Computed.Statements.{inside_for, step, walk_suite, walk_branches}
+use Rattle.pc_module_rules.specs.Computed.Statements.{inside_for, step, walk_suite, walk_branches, BindingResult}
+use Rattle.pc_module_rules.specs.Computed.Statements.{item_label_of, name_note, noted_binding, with_note}
 use Rattle.pc_module_rules.specs.Laws.Walks.{TableFits, EnvFits, OutFits, body_context_in}
 use Rattle.pc_module_rules.proofs.DeclaredTypes.{known_well_formed, declared_is, want_is, type_is}
-use Rattle.pc_module_rules.proofs.WalkedTables.{fits_both, unreached_suite}
+use Rattle.pc_module_rules.proofs.WalkedTables.{fits_both}
 use Rattle.pc_module_rules.proofs.WalkedEnvironments.{truth_same, truth_fits, head_same, head_fits}
 use Rattle.pc_module_rules.proofs.WalkedExpressions.{told, iterable_told, flows_told}
 use Rattle.pc_module_rules.proofs.WalkedBindings.{target_says}
-use Rattle.pc_module_rules.proofs.WalkedStatements.{stmt_says, suite_says}
+use Rattle.pc_module_rules.proofs.KeptStatements.{Stands, stmt_stands, suite_stands, none_noted}
+use Rattle.pc_module_rules.proofs.KeptWalks.{standing, same_item, same_item_bound}
+use Rattle.pc_module_rules.proofs.NotedNames.{note_holds}
+use Rattle.pc_module_rules.proofs.ReadExpressions.{label_is}
 use Rattle.pc_module_rules.specs.FlowsOfExpressions.{CodedFlow, coded_at, coded_in}
 use Rattle.pc_module_rules.specs.FlowsOfStatements.{coded_in_option, coded_in_value, coded_in_stmt}
 use Rattle.pc_module_rules.specs.FlowsOfStatements.{coded_in_suite, coded_in_branches}
-use Rattle.pc_module_rules.proofs.FirstFlows.{Tells, tell_plain, Grows, grow_none, grow, grow_then, grow_behind}
+use Rattle.pc_module_rules.proofs.FirstFlows.{Tells, tell_none, tell_plain, Grows, grow_none, grow, grow_then, grow_behind}
+use Rattle.pc_module_rules.proofs.FirstFlows.{grow_after}
 use Rattle.pc_module_rules.proofs.ToldFlows.{tell_codes, tell_flows}
 use Rattle.pc_module_rules.proofs.ToldExpressions.{tell_in, tell_iterable, tell_store, tell_option, tell_return}
 
-module _ (code : Code) (own : is_of_scopes code ≡ false) (setting : Surroundings) (returned : Tree)
+module _ (code : Code) (own : is_of_scopes code ≡ false) (keeps : Test) (setting : Surroundings) (returned : Tree)
     (kr : IsWellFormed setting.context.bases returned) (declared : List Tree) where
   open setting use {whole as m, context as ctx, context_well_formed as ck}
 
+  -- the context of the statements, where types may be kept, and where they are not
   abbrev context : BodyContext
-  context = body_context_in setting returned
+  context = standing m ctx returned keeps
+
+  abbrev plain : BodyContext
+  plain = body_context_in setting returned
 
   abbrev TableHere : NamesBound → DeclaredTypes → Type 0
   TableHere seen table = TableFits setting declared seen table
 
+  abbrev LawfulHere : NamesBound → Env → (s : Stmt) → StmtLabels s → Option Env → Type 0
+  LawfulHere seen env s labels out = LawfulStmt m ctx declared returned seen env s labels out
+
+  abbrev LawfulThere : NamesBound → Env → (b : Stmts) → SuiteLabels b → Option Env → Type 0
+  LawfulThere seen env b labels out = LawfulSuite m ctx declared returned seen env b labels out
+
   -- ---- a local bound
+
+  -- a binding tells of the same flows with the note of its name
+  noted_tells : (valued : Test) (r : NameMeaning) (p : Place) (found : List Note) (b : BindingResult)
+      (flows : List CodedFlow) → Grows code found b.found flows
+      → Grows code found (noted_binding keeps valued r p b).found flows
+  noted_tells valued r p found b flows h = kept keeps
+    where
+      kept : (k : Test) → Grows code found (noted_binding k valued r p b).found flows
+      kept false = h
+      kept true = grow_after code found b.found (name_note valued b.table b.env r p) flows h
+          (note_holds (λ (xs : List Note). Tells code xs []) tell_none (λ q d t. record { is = λ at. refl }) valued
+          b.table b.env r p)
 
   module _ (seen : NamesBound) (n : Name) (table : DeclaredTypes) (h : TableFits setting declared seen table) where
     -- the flow into a local that is bound to what has a label
@@ -113,10 +140,11 @@ module _ (code : Code) (own : is_of_scopes code ≡ false) (setting : Surroundin
         let es = coded_at code (place_of e) flows in
         subst (λ y. Grows code found (bind_label context table env x want (place_of e) y (found ++ finds)).found
         (ds ++ es))
-        (sym v.label)
+        (sym (label_is keeps setting declared table h.well_formed env f want kw e labels lw))
         (grow_then code found (found ++ finds) (bind_label context table env x want (place_of e) (whole_label e labels)
         (found ++ finds)).found ds es
-        (grow code found finds ds (tell_in code own setting returned kr declared table h.well_formed env f want kw e
+        (grow code found finds ds (tell_in code own keeps setting returned kr declared table h.well_formed env f want
+        kw e
         labels lw))
         (label_tells env x want (place_of e) (whole_label e labels) flows (found ++ finds) is kw v.well_formed l.flow))
 
@@ -131,7 +159,7 @@ module _ (code : Code) (own : is_of_scopes code ≡ false) (setting : Surroundin
         (subst (λ ds. Grows code found (found ++ finds_in (standing_here context table env) None e) ds)
         (sym (append-nil (coded_in code e labels)))
         (grow code found (finds_in (standing_here context table env) None e) (coded_in code e labels)
-        (tell_in code own setting returned kr declared table h.well_formed env f None tt e labels l)))
+        (tell_in code own keeps setting returned kr declared table h.well_formed env f None tt e labels l)))
 
     binding_tells : (r : NameMeaning) → ctx.resolve n.text ≡ r → (env : Env) → EnvFits setting declared table env
         → (a a' : Option Tree) → (is_first seen n ≡ true → a ≡ a') → IsWellFormedIfAny ctx.bases a'
@@ -182,7 +210,8 @@ module _ (code : Code) (own : is_of_scopes code ≡ false) (setting : Surroundin
     annotated_tells : (env : Env) → EnvFits setting declared table env → (p : Place) (a : Ann) (e : Option Expr)
         (labels : OptionLabels e) (flows : FlowLabels) (after : Env) (found : List Note)
         → LawfulAnnotated m ctx declared env seen n a e labels flows after
-        → Grows code found (bind_annotated context table env n a e found).found (coded_in_value code p e labels flows)
+        → Grows code found (annotated_binding context table env (ctx.resolve n.text) n a e found).found
+        (coded_in_value code p e labels flows)
     annotated_tells env f p a None labels flows after found l =
         let o = bound_name context table (ctx.resolve n.text) in
         let finds = annotation_finds context o n a in
@@ -192,7 +221,8 @@ module _ (code : Code) (own : is_of_scopes code ≡ false) (setting : Surroundin
         let t = read_ann m ctx.bases a in
         let o = bound_name context table (ctx.resolve n.text) in
         let finds = annotation_finds context o n a in
-        grow_behind code found finds (bind_annotated context table env n a (Some e) found).found
+        grow_behind code found finds
+        (annotated_binding context table env (ctx.resolve n.text) n a (Some e) found).found
         (coded_in code e labels ++ coded_at code (place_of e) flows) (annotation_tells o a)
         (binding_tells (ctx.resolve n.text) refl env f (annotation_at m ctx declared (is_first seen n) t) (Some t)
         (λ q. ap (λ b. annotation_at m ctx declared b t) q) (read_ann_well_formed m ctx.bases ck.smaller a) e labels
@@ -202,28 +232,29 @@ module _ (code : Code) (own : is_of_scopes code ≡ false) (setting : Surroundin
 
   assignment_tells : (seen : NamesBound) (table : DeclaredTypes) (env : Env) (found : List Note) → TableHere seen table
       → EnvFits setting declared table env → (p : Place) (t : Target) (e : Expr) (labels : StmtLabels (assigns p t e))
-      (out : Option Env) → LawfulStmt m ctx declared returned seen env (assigns p t e) labels out
+      (out : Option Env) → LawfulHere seen env (assigns p t e) labels out
       → Grows code found (assign_target context table env t e found).found (coded_in_stmt code (assigns p t e) labels)
   assignment_tells seen table env found t f p (to_name n) e labels out l =
-      binding_tells seen n table t (ctx.resolve n.text) refl env f None None (λ q. refl) tt e labels.value labels.flows
-      l.after found l.assignment
+      let r = ctx.resolve n.text in
+      noted_tells true r n.place found (bind_value context table env r None e found)
+      (coded_in_stmt code (assigns p (to_name n) e) labels)
+      (binding_tells seen n table t r refl env f None None (λ q. refl) tt e labels.value labels.flows l.after found
+      l.assignment)
   assignment_tells seen table env found t f p (to_attribute q o field) e labels out l =
       grow code found (store_finds context (standing_here context table env) (to_attribute q o field) e)
       (coded_in_stmt code (assigns p (to_attribute q o field) e) labels)
-      (tell_store code own setting returned kr declared table t.well_formed env f (to_attribute q o field) labels.target
+      (tell_store code own keeps setting returned kr declared table t.well_formed env f (to_attribute q o field)
+      labels.target
       e
       labels.value labels.flows l.assignment.0)
   assignment_tells seen table env found t f p (to_index q o i) e labels out l =
       grow code found (store_finds context (standing_here context table env) (to_index q o i) e)
       (coded_in_stmt code (assigns p (to_index q o i) e) labels)
-      (tell_store code own setting returned kr declared table t.well_formed env f (to_index q o i) labels.target e
+      (tell_store code own keeps setting returned kr declared table t.well_formed env f (to_index q o i) labels.target e
       labels.value
       labels.flows l.assignment.0)
 
   -- ---- statements, suites and branches
-
-  abbrev LawfulThere : NamesBound → Env → (b : Stmts) → SuiteLabels b → Option Env → Type 0
-  LawfulThere seen env b labels out = LawfulSuite m ctx declared returned seen env b labels out
 
   -- the notes of a walk over a suite, from a state that fits, tell of the flows with the code in the suite
   abbrev SuiteTells : NamesBound → (b : Stmts) → Type 0
@@ -234,28 +265,28 @@ module _ (code : Code) (own : is_of_scopes code ≡ false) (setting : Surroundin
       → Grows code w.found (walk_suite context w b).found (coded_in_suite code b labels)
 
   -- the notes of a statement and of those after it tell of the flows with the code in them
-  behind_tells : (b : Test) (seen : NamesBound) (env : Env) (found : List Note) (s : Stmt) (rest : Stmts)
-      (s0 : StmtLabels s) (r : Behind b (Following (SuiteLabels rest))) (out : Option Env) (v : Walk)
-      → ((o : Option Env) → LawfulStmt m ctx declared returned seen env s s0 o
-      → TableHere (texts (bound_by_stmt s) ++ seen) v.table × (v.env ≡ o) × OutFits setting declared v.table o
-      × OutFits setting declared v.table v.broken × Grows code found v.found (coded_in_stmt code s s0))
+  behind_tells : (b : Test) (seen : NamesBound) (env : Env) (table : DeclaredTypes) (found : List Note) (s : Stmt)
+      (rest : Stmts) (s0 : StmtLabels s) (r : Behind b (Following (SuiteLabels rest))) (out : Option Env) (v : Walk)
+      → ((o : Option Env) → LawfulHere seen env s s0 o
+      → Stands keeps setting returned kr declared (texts (bound_by_stmt s) ++ seen) table v o
+      × Grows code found v.found (coded_in_stmt code s s0))
       → SuiteTells (texts (bound_by_stmt s) ++ seen) rest
-      → BehindRule b r (λ x. LawfulStmt m ctx declared returned seen env s s0 (Some x.env)
+      → BehindRule b r (λ x. LawfulHere seen env s s0 (Some x.env)
       × LawfulThere (texts (bound_by_stmt s) ++ seen) x.env rest x.rest out)
-      (LawfulStmt m ctx declared returned seen env s s0 None × AreUndeclared m ctx declared
-      (texts (bound_by_stmt s) ++ seen) (bound_by rest) × (out ≡ None))
+      (LawfulHere seen env s s0 None × AreUndeclared m ctx declared (texts (bound_by_stmt s) ++ seen) (bound_by rest)
+      × (out ≡ None))
       → Grows code found (walk_suite context v rest).found (coded_in_stmt code s s0 ++ behind_list b r
       (λ x. coded_in_suite code rest x.rest))
-  behind_tells true seen env found s rest s0 r out v first next l =
+  behind_tells true seen env table found s rest s0 r out v first next l =
       let f = first (Some r.env) l.0 in
       grow_then code found v.found (walk_suite context v rest).found (coded_in_stmt code s s0)
       (coded_in_suite code rest r.rest)
-      f.4 (next v r.env f.1 f.0 f.2 f.3 r.rest out l.1)
-  behind_tells false seen env found s rest s0 r out v first next l =
+      f.1 (next v r.env f.0.env_is f.0.fits f.0.env_fits f.0.broken_fits r.rest out l.1)
+  behind_tells false seen env table found s rest s0 r out v first next l =
       let f = first None l.0 in
       subst (λ ds. Grows code found (walk_suite context v rest).found ds) (sym (append-nil (coded_in_stmt code s s0)))
-      (subst (λ (w : Walk). Grows code found w.found (coded_in_stmt code s s0))
-      (sym (unreached_suite setting declared returned v f.1 rest)) f.4)
+      (subst (λ (xs : List Note). Grows code found xs (coded_in_stmt code s s0))
+      (sym (none_noted keeps setting returned kr declared v f.0.env_is rest)) f.1)
 
   -- a walk over branches fits the labels, and tells of just what stands under them
   record ForkTells (seen : NamesBound) (found : List Note) (w : BranchesResult) (last : Env)
@@ -269,8 +300,7 @@ module _ (code : Code) (own : is_of_scopes code ≡ false) (setting : Surroundin
   mutual
     pub stmt_tells : (seen : NamesBound) (table : DeclaredTypes) (env : Env) (broken : Option Env) (found : List Note)
         → TableHere seen table → EnvFits setting declared table env → OutFits setting declared table broken
-        → (s : Stmt) (labels : StmtLabels s) (out : Option Env) → LawfulStmt m ctx declared returned seen env s labels
-        out
+        → (s : Stmt) (labels : StmtLabels s) (out : Option Env) → LawfulHere seen env s labels out
         → Grows code found (step context table (Some env) broken found s).found (coded_in_stmt code s labels)
     stmt_tells seen table env broken found t f kb (pass p) labels out l = grow_none code found
     stmt_tells seen table env broken found t f kb (breaks p) labels out l = grow_none code found
@@ -278,7 +308,8 @@ module _ (code : Code) (own : is_of_scopes code ≡ false) (setting : Surroundin
     stmt_tells seen table env broken found t f kb (returns p e) labels out l =
         grow code found (return_finds context (standing_here context table env) p e)
         (coded_in_value code p e labels.value labels.flows)
-        (tell_return code own setting returned kr declared table t.well_formed env f p e labels.value labels.flows l.0)
+        (tell_return code own keeps setting returned kr declared table t.well_formed env f p e labels.value
+        labels.flows l.0)
     stmt_tells seen table env broken found t f kb (asserts p c e) labels out l =
         let no = narrow ctx.bases declared ctx.resolve false c env in
         let fn = truth_fits setting declared table t.well_formed false c env f in
@@ -287,20 +318,23 @@ module _ (code : Code) (own : is_of_scopes code ≡ false) (setting : Surroundin
         let ds = coded_in code c labels.condition in
         let es = coded_in_option code e labels.message in
         grow_then code found (found ++ xs) ((found ++ xs) ++ ys) ds es
-        (grow code found xs ds (tell_in code own setting returned kr declared table t.well_formed env f None tt c
+        (grow code found xs ds (tell_in code own keeps setting returned kr declared table t.well_formed env f None tt c
         labels.condition
         l.condition))
         (grow code (found ++ xs) ys es
         (subst (λ x. Tells code (option_finds context (standing_here context table x) None e) es)
         (truth_same setting declared table t.well_formed false c env f)
-        (tell_option code own setting returned kr declared table t.well_formed no fn e labels.message l.message)))
-    stmt_tells seen table env broken found t f kb (annotated p n a e) labels out l = annotated_tells seen n table t env
-        f p a e labels.value labels.flows l.after found l.binding
+        (tell_option code own keeps setting returned kr declared table t.well_formed no fn e labels.message l.message)))
+    stmt_tells seen table env broken found t f kb (annotated p n a e) labels out l =
+        noted_tells (is_some e) (ctx.resolve n.text) n.place found
+        (annotated_binding context table env (ctx.resolve n.text) n a e found)
+        (coded_in_value code p e labels.value labels.flows)
+        (annotated_tells seen n table t env f p a e labels.value labels.flows l.after found l.binding)
     stmt_tells seen table env broken found t f kb (assigns p x e) labels out l = assignment_tells seen table env found t
         f p x e labels out l
     stmt_tells seen table env broken found t f kb (evaluates p e) labels out l =
         grow code found (finds_in (standing_here context table env) None e) (coded_in code e labels)
-        (tell_in code own setting returned kr declared table t.well_formed env f None tt e labels l.0)
+        (tell_in code own keeps setting returned kr declared table t.well_formed env f None tt e labels l.0)
     stmt_tells seen table env broken found t f kb (while_loop p c b) labels out l =
         let kt = t.well_formed in
         let bound = binds_number ctx.resolve (bound_by b) in
@@ -333,7 +367,7 @@ module _ (code : Code) (own : is_of_scopes code ≡ false) (setting : Surroundin
         })
         b)).found (ds ++ es)) q
         (grow_then code found (found ++ xs) (walk_suite context start b).found ds es
-        (grow code found xs ds (tell_in code own setting returned kr declared table kt labels.head fh None tt c
+        (grow code found xs ds (tell_in code own keeps setting returned kr declared table kt labels.head fh None tt c
         labels.condition
         l.condition))
         (suite_tells seen b start (narrow ctx.bases declared ctx.resolve true c labels.head) (ap Some (sym yes)) t
@@ -346,34 +380,45 @@ module _ (code : Code) (own : is_of_scopes code ≡ false) (setting : Surroundin
         let q : labels.head ≡ head_at context table (n ∷ bound_by b) env = l.head
         ∙ head_same setting declared table kt bound env f in
         let it = iterable_told setting declared table kt env f returned e labels.iterable labels.item l.iterable in
+        let item_is : item_label_of context (standing_here context table env) e ≡ labels.item =
+        same_item m ctx returned keeps false table env e ∙ it.item_is in
+        let r = ctx.resolve n.text in
         let xs = iterable_finds context (standing_here context table env) e in
         let ys = codes_at (place_of e) labels.item.codes in
-        let start = bind_item context table labels.head (ctx.resolve n.text) (place_of e) labels.item.type
-        ((found ++ xs) ++ ys) in
-        let tg = target_says setting returned declared seen n table t (ctx.resolve n.text) refl labels.head fh
-        labels.item it.well_formed (place_of e) labels.flows l.inside ((found ++ xs) ++ ys) l.target in
+        let before = (found ++ xs) ++ ys in
+        let item = bind_item context table labels.head r (place_of e) labels.item.type before in
+        let start = with_note context true r n.place item in
+        let other = bind_item plain table labels.head r (place_of e) labels.item.type before in
+        let same = same_item_bound m ctx returned keeps false table labels.head n (place_of e) labels.item.type
+        labels.item.type refl before before in
+        let tg = target_says setting returned declared seen n table t r refl labels.head fh
+        labels.item it.well_formed (place_of e) labels.flows l.inside before l.target in
+        let back : other.table ≡ start.table = sym same.table in
         let ds = coded_in code e labels.iterable in
         let es = coded_at code (place_of e) labels.flows in
         let fs = coded_in_suite code b labels.body in
         let body = inside_for context labels.head start in
-        let inside = target_tells seen n table t (ctx.resolve n.text) refl labels.head labels.item it.well_formed
-        (place_of e) labels.flows l.inside ((found ++ xs) ++ ys) l.target in
-        let rest = grow_then code ((found ++ xs) ++ ys) start.found (walk_suite context body b).found es fs inside
-        (suite_tells (n.text ∷ seen) b body l.inside (ap Some tg.env_is) tg.fits tg.env_fits (tg.grows labels.head fh)
+        let inside = noted_tells true r n.place before item es
+        (target_tells seen n table t r refl labels.head labels.item it.well_formed (place_of e) labels.flows l.inside
+        before l.target) in
+        let rest = grow_then code before start.found (walk_suite context body b).found es fs inside
+        (suite_tells (n.text ∷ seen) b body l.inside (ap Some (same.env ∙ tg.env_is))
+        (subst (λ (u : DeclaredTypes). TableHere (n.text ∷ seen) u) back tg.fits)
+        (subst (λ (u : DeclaredTypes). EnvFits setting declared u l.inside) back tg.env_fits)
+        (subst (λ (u : DeclaredTypes). EnvFits setting declared u labels.head) back (tg.grows labels.head fh))
         labels.body labels.out l.body) in
         subst
         (λ i. Grows code found (behind_loop context broken (walk_suite context
-        (inside_for context (head_at context table (n ∷ bound_by b) env)
-        (bind_item context table (head_at context table (n ∷ bound_by b) env) (ctx.resolve n.text) (place_of e)
-        i.type ((found ++ xs) ++ codes_at (place_of e) i.codes))) b)).found (ds ++ (es ++ fs))) (sym it.item_is)
+        (inside_for context (head_at context table (n ∷ bound_by b) env) (with_note context true r n.place
+        (bind_item context table (head_at context table (n ∷ bound_by b) env) r (place_of e) i.type
+        ((found ++ xs) ++ codes_at (place_of e) i.codes)))) b)).found (ds ++ (es ++ fs))) (sym item_is)
         (subst
         (λ h. Grows code found (behind_loop context broken (walk_suite context
-        (inside_for context h (bind_item context table h (ctx.resolve n.text) (place_of e) labels.item.type
-        ((found ++ xs) ++ ys))) b)).found (ds ++ (es ++ fs))) q
+        (inside_for context h (with_note context true r n.place
+        (bind_item context table h r (place_of e) labels.item.type before))) b)).found (ds ++ (es ++ fs))) q
         (grow_then code found (found ++ xs) (walk_suite context body b).found ds (es ++ fs)
-        (grow code found xs ds (tell_iterable code own setting returned kr declared table kt env f e labels.iterable
-        labels.item
-        l.iterable))
+        (grow code found xs ds (tell_iterable code own keeps setting returned kr declared table kt env f e
+        labels.iterable labels.item l.iterable))
         (grow_behind code (found ++ xs) ys (walk_suite context body b).found (es ++ fs)
         (tell_codes code own (place_of e) labels.item.codes) rest)))
     stmt_tells seen table env broken found t f kb (conditional p bs o) labels out l =
@@ -407,16 +452,11 @@ module _ (code : Code) (own : is_of_scopes code ≡ false) (setting : Surroundin
     suite_tells seen (more_stmts s rest) w env e t f kb labels out l =
         subst (λ o. Grows code w.found (walk_suite context (step context w.table o w.broken w.found s) rest).found
         (coded_in_suite code (more_stmts s rest) labels)) (sym e)
-        (behind_tells (completes s) seen env w.found s rest labels.first labels.behind out
+        (behind_tells (completes s) seen env w.table w.found s rest labels.first labels.behind out
         (step context w.table (Some env) w.broken w.found s)
-        (λ o y.
-        let says = stmt_says setting returned kr declared seen w.table env w.broken w.found t f kb s labels.first o y in (
-          says.fits,
-          says.env_is,
-          says.env_fits,
-          says.broken_fits,
-          stmt_tells seen w.table env w.broken w.found t f kb s
-              labels.first o y,
+        (λ o y. (
+          stmt_stands keeps setting returned kr declared seen w.table env w.broken w.found t f kb s labels.first o y,
+          stmt_tells seen w.table env w.broken w.found t f kb s labels.first o y,
         ))
         (suite_tells (texts (bound_by_stmt s) ++ seen) rest)
         l)
@@ -446,7 +486,8 @@ module _ (code : Code) (own : is_of_scopes code ≡ false) (setting : Surroundin
               w.broken;
           found = w.found ++ xs;
         } in
-        let body = suite_says setting returned kr declared seen start (narrow ctx.bases declared ctx.resolve true c env)
+        let body = suite_stands keeps setting returned kr declared seen start
+        (narrow ctx.bases declared ctx.resolve true c env)
         (ap Some (sym yes)) t (truth_fits setting declared w.table kt true c env f) kb b labels.body labels.out
         l.body in
         let told_body = suite_tells seen b start (narrow ctx.bases declared ctx.resolve true c env) (ap Some (sym yes))
@@ -483,7 +524,7 @@ module _ (code : Code) (own : is_of_scopes code ≡ false) (setting : Surroundin
           last_fits = others.last_fits;
           broken_fits = others.broken_fits;
           tells = grow_then code w.found (w.found ++ xs) (walk_branches context next rest).found ds (es ++ fs)
-              (grow code w.found xs ds (tell_in code own setting returned kr declared w.table kt env f None tt c
+              (grow code w.found xs ds (tell_in code own keeps setting returned kr declared w.table kt env f None tt c
               labels.condition
               l.condition))
               (grow_then code (w.found ++ xs) u.found (walk_branches context next rest).found es fs told_body

@@ -6,28 +6,21 @@ use Rattle.pc_source.specs.declared.place.Place.{Place}
 use Rattle.pc_tree.specs.Depth.{place_of}
 use Rattle.pc_tree.specs.Tree.{Name, Expr, Exprs, Keywords, name, call, Target, to_name, to_attribute, to_index}
 use Rattle.pc_scope.specs.Expressions.{is_named, is_instance_test}
-use Rattle.pc_types.specs.Tree.{Tree, Int, Object, NoneType}
+use Rattle.pc_types.specs.Tree.{Tree, NoneType}
 use Rattle.pc_types.specs.WellFormed.{IsWellFormed}
-use Rattle.pc_types.specs.Computed.{static_test, assignable_test}
 use Rattle.pc_flow.specs.Environment.{Env}
-use Rattle.pc_flow.specs.WellFormed.{AreWellFormed, IsWellFormedEnv, IsWellFormedIfAny}
+use Rattle.pc_flow.specs.WellFormed.{IsWellFormedEnv, IsWellFormedIfAny}
 use Rattle.pc_notes.specs.Notes.{Note}
 use Rattle.pc_rules.specs.Operations.{Label, clean, StoreOffer, store_codes, store_index_types, stored_types, only_type}
 use Rattle.pc_rules.specs.Calls.{CallOffer, arguments_given, call_label, positional_seat, named_seat, is_range}
-use Rattle.pc_rules.specs.Calls.{range_item, range_offers, range_signature}
-use Rattle.pc_rules.specs.Labels.{FlowLabels, Labels, whole_label, type_of}
+use Rattle.pc_rules.specs.Calls.{range_item, range_offers}
+use Rattle.pc_rules.specs.Labels.{FlowLabels, Labels, type_of}
 use Rattle.pc_rules.specs.Lawful.{Lawful}
-use Rattle.pc_rules.specs.Computed.Expressions.{labels_of, flows_of}
-use Rattle.pc_rules.specs.Computed.Findings.{codes_at, flows_at, notes_under}
+use Rattle.pc_rules.specs.Computed.Expressions.{flows_of}
+use Rattle.pc_rules.specs.Computed.Findings.{codes_at, flows_at}
 use Rattle.pc_rules.specs.Computed.Standing.{Standing, label_in, finds_in, items_in, keywords_in, arguments_find}
 use Rattle.pc_rules.specs.Computed.Standing.{keywords_find}
 use Rattle.pc_rules.specs.Computed.Ranges.{range_finds}
-use Rattle.pc_rules.proofs.One.{one, items_one, keywords_one}
-use Rattle.pc_rules.proofs.WellFormed.{int_well_formed, object_well_formed}
-use Rattle.pc_rules.proofs.Called.{CallsWellFormed, builtin_well_formed, called_well_formed, named_well_formed}
-use Rattle.pc_rules.proofs.Called.{positional_well_formed}
-use Rattle.pc_rules.proofs.ComputedFlows.{are_tests}
-use Rattle.pc_rules.proofs.ComputedLawful.{labels_are_lawful, items_lawful, keywords_lawful}
 use Rattle.pc_module_rules.specs.StatementLabels.{OptionLabels, TargetLabels}
 use Rattle.pc_module_rules.specs.Statements.{RangeOrValues, LawfulRange, LawfulValues, LawfulIterable, attribute_offers}
 use Rattle.pc_module_rules.specs.Statements.{index_offers, LawfulStore, LawfulReturn, LawfulOption}
@@ -38,19 +31,19 @@ use Rattle.pc_module_rules.specs.Computed.Statements.{stored_finds, store_finds,
 use Rattle.pc_module_rules.specs.Computed.Statements.{return_finds}
 use Rattle.pc_module_rules.proofs.StoredTypes.{fields_stored, items_stored, only_well_formed}
 use Rattle.pc_module_rules.proofs.WalkedExpressions.{told}
-use Rattle.pc_module_rules.proofs.WalkedTables.{types_well_formed}
-use Rattle.pc_module_rules.specs.TypesOfExpressions.{types_in, types_inside, types_in_arguments}
-use Rattle.pc_module_rules.specs.TypesOfExpressions.{types_in_keywords}
+use Rattle.pc_module_rules.specs.TypesOfExpressions.{types_in, types_in_arguments, types_in_keywords}
+use Rattle.pc_module_rules.specs.TypesOfExpressions.{types_of_arguments}
 use Rattle.pc_module_rules.specs.TypesOfStatements.{types_in_option, types_in_target, types_in_iterable}
 use Rattle.pc_module_rules.proofs.KeptWalks.{standing}
 use Rattle.pc_module_rules.proofs.NotedTypes.{Shows, show_nothing, show_both, show_behind, show_after, show_grouped}
 use Rattle.pc_module_rules.proofs.NotedTypes.{show_codes, show_flows, show_arguments, show_keywords, show_expression}
+use Rattle.pc_module_rules.proofs.ReadExpressions.{found_is, label_is, range_read}
 
 -- in these surroundings a name means `range` exactly where it is this name
 abbrev pub KnowsRange : Surroundings → Type 0
 KnowsRange setting = (n : Name) → is_range (setting.context.resolve n.text) ≡ is_named (codes "range") (name n)
 
-module _ (setting : Surroundings) (knows : KnowsRange setting) (returned : Tree)
+module _ (every : Test) (setting : Surroundings) (knows : KnowsRange setting) (returned : Tree)
     (kr : IsWellFormed setting.context.bases returned) (declared : List Tree) (table : DeclaredTypes)
     (kt : IsWellFormedEnv setting.context.bases table) (env : Env) (h : EnvFits setting declared table env) where
   open setting use {whole as m, context as ctx, context_well_formed as ck}
@@ -61,29 +54,12 @@ module _ (setting : Surroundings) (knows : KnowsRange setting) (returned : Tree)
   abbrev at_env : Standing
   at_env = record { context = ctx; declared = type_table table; env = env; keeps = true }
 
-  ds : AreWellFormed ctx.bases (type_table table)
-  ds = types_well_formed ctx.bases table kt
-
   -- ---- expressions
 
-  found_is : (want : Option Tree) → IsWellFormedIfAny ctx.bases want → (e : Expr) (labels : Labels e)
-      → Lawful ctx declared env want e labels → finds_in at_env want e ≡ notes_under true e labels
-  unfolding finds_in
-  found_is want kw e labels l =
-      let computed = labels_of ctx (type_table table) env want e in
-      let k = labels_are_lawful ctx (type_table table) env want e ck ds h.well_formed kw in
-      ap (notes_under true e) (sym (one ctx declared (type_table table) env h.same want e labels computed l k.0))
-
   pub show_read : (want : Option Tree) → IsWellFormedIfAny ctx.bases want → (e : Expr) (labels : Labels e)
-      → Lawful ctx declared env want e labels → Shows (finds_in at_env want e) (types_in e labels)
-  show_read want kw e labels l = subst (λ (xs : List Note). Shows xs (types_in e labels))
-      (sym (found_is want kw e labels l)) (show_expression e labels)
-
-  -- the walk reads the label that is lawful
-  pub label_is : (want : Option Tree) → IsWellFormedIfAny ctx.bases want → (e : Expr) (labels : Labels e)
-      → Lawful ctx declared env want e labels → label_in at_env want e ≡ whole_label e labels
-  unfolding label_in
-  label_is want kw e labels l = (told setting declared table kt env h want kw e labels l).label
+      → Lawful ctx declared env want e labels → Shows every (finds_in at_env want e) (types_in every e labels)
+  show_read want kw e labels l = subst (λ (xs : List Note). Shows every xs (types_in every e labels))
+      (sym (found_is true setting declared table kt env h want kw e labels l)) (show_expression e labels)
 
   -- ---- what a `for` goes over
 
@@ -95,59 +71,45 @@ module _ (setting : Surroundings) (knows : KnowsRange setting) (returned : Tree)
     abbrev offers : List CallOffer
     offers = range_offers (arguments_given args kws)
 
-    calls : CallsWellFormed ctx.bases offers
-    calls = (
-      called_well_formed ctx.bases (arguments_given args kws)
-          range_signature (builtin_well_formed ctx.bases (Int ∷ []) Object (int_well_formed ctx.bases, tt)
-          (object_well_formed ctx.bases)),
-      tt,
-    )
-
     show_range : (labels : Labels range) → LawfulRange m ctx declared env (name n) args kws p labels
-        → Shows (range_finds at_env p (name n) args kws) (types_inside range labels)
+        → Shows every (range_finds at_env p (name n) args kws) (types_of_arguments every range labels)
     unfolding arguments_find keywords_find
     show_range labels l =
-        let tests = are_tests ctx.bases ck.smaller in
+        let read = range_read true setting declared table kt env h p n args kws labels l in
         let seat = positional_seat offers in
         let named = named_seat offers in
         let is_test = is_instance_test (name n) args kws in
-        let a = items_lawful ctx (type_table table) ck ds (static_test ctx.bases) (assignable_test ctx.bases) tests env
-        h.well_formed seat (positional_well_formed ctx.bases offers calls) args in
-        let k = keywords_lawful ctx (type_table table) ck ds (static_test ctx.bases) (assignable_test ctx.bases) tests
-        env h.well_formed named (named_well_formed ctx.bases offers calls) [] kws in
-        let q = items_one ctx declared (type_table table) env h.same seat args labels.arguments
-        (items_in at_env seat args) l.arguments a.lawful in
-        let r = keywords_one ctx declared (type_table table) env h.same named [] kws labels.keywords
-        (keywords_in at_env named [] kws) l.keywords k.lawful in
         let at_call = codes_at p (call_label ctx.bases offers).codes in
-        let by_position : Shows (arguments_find at_env is_test seat args) (types_in_arguments is_test args
-        labels.arguments) = subst (λ x. Shows (arguments_find at_env is_test seat args)
-        (types_in_arguments is_test args x)) (sym q) (show_arguments is_test args (items_in at_env seat args)) in
-        let by_name : Shows (keywords_find at_env named [] kws) (types_in_keywords kws labels.keywords) =
-        subst (λ x. Shows (keywords_find at_env named [] kws) (types_in_keywords kws x)) (sym r)
+        let by_position : Shows every (arguments_find at_env is_test seat args) (types_in_arguments every is_test args
+        labels.arguments) = subst (λ x. Shows every (arguments_find at_env is_test seat args)
+        (types_in_arguments every is_test args x)) (sym read.by_position)
+        (show_arguments is_test args (items_in at_env seat args)) in
+        let by_name : Shows every (keywords_find at_env named [] kws) (types_in_keywords every kws labels.keywords) =
+        subst (λ x. Shows every (keywords_find at_env named [] kws) (types_in_keywords every kws x)) (sym read.by_name)
         (show_keywords kws (keywords_in at_env named [] kws)) in
         show_both (arguments_find at_env is_test seat args) (keywords_find at_env named [] kws ++ at_call)
-        (types_in_arguments is_test args labels.arguments) (types_in_keywords kws labels.keywords) by_position
-        (show_behind (keywords_find at_env named [] kws) at_call (types_in_keywords kws labels.keywords) by_name
+        (types_in_arguments every is_test args labels.arguments) (types_in_keywords every kws labels.keywords)
+        by_position
+        (show_behind (keywords_find at_env named [] kws) at_call (types_in_keywords every kws labels.keywords) by_name
         (show_codes p (call_label ctx.bases offers).codes))
 
     show_call : (b : Test) (labels : Labels range) (item : Label)
         → RangeOrValues m ctx declared b (LawfulRange m ctx declared env (name n) args kws p labels
         × (item ≡ range_item (arguments_given args kws))) (LawfulValues m ctx declared env range labels item)
-        → Shows (if b then range_finds at_env p (name n) args kws else finds_in at_env None range)
-        (if b then types_inside range labels else types_in range labels)
+        → Shows every (if b then range_finds at_env p (name n) args kws else finds_in at_env None range)
+        (if b then types_of_arguments every range labels else types_in every range labels)
     show_call true labels item l = show_range labels l.0
     show_call false labels item l = show_read None tt range labels l.0
 
     show_known : (labels : Labels range) (item : Label) → LawfulIterable m ctx declared env range labels item
-        → Shows (iterable_finds context at_env range) (types_in_iterable range labels)
+        → Shows every (iterable_finds context at_env range) (types_in_iterable every range labels)
     show_known labels item l = subst
-        (λ (b : Test). Shows (iterable_finds context at_env range)
-        (if b then types_inside range labels else types_in range labels)) (knows n)
+        (λ (b : Test). Shows every (iterable_finds context at_env range)
+        (if b then types_of_arguments every range labels else types_in every range labels)) (knows n)
         (show_call (is_range (ctx.resolve n.text)) labels item l)
 
   pub show_iterable : (e : Expr) (labels : Labels e) (item : Label) → LawfulIterable m ctx declared env e labels item
-      → Shows (iterable_finds context at_env e) (types_in_iterable e labels)
+      → Shows every (iterable_finds context at_env e) (types_in_iterable every e labels)
   show_iterable (call p (name n) args kws) labels item l = show_known p n args kws labels item l
   show_iterable (call p c args kws) labels item l = show_read None tt (call p c args kws) labels l.0
   show_iterable e labels item l = show_read None tt e labels l.0
@@ -158,28 +120,29 @@ module _ (setting : Surroundings) (knows : KnowsRange setting) (returned : Tree)
   show_stored : (read os : List StoreOffer) → read ≡ os → (p : Place) (e : Expr) (labels : Labels e)
       → IsWellFormedIfAny ctx.bases (only_type os (stored_types os))
       → Lawful ctx declared env (only_type os (stored_types os)) e labels
-      → Shows (stored_finds context at_env read p e) (types_in e labels)
+      → Shows every (stored_finds context at_env read p e) (types_in every e labels)
   show_stored read os is p e labels kw l =
       let want = only_type os (stored_types os) in
       let flows = flows_of ctx.bases (label_in at_env want e) (stored_types os) in
-      subst (λ (q : List StoreOffer). Shows (stored_finds context at_env q p e) (types_in e labels)) (sym is)
+      subst (λ (q : List StoreOffer). Shows every (stored_finds context at_env q p e) (types_in every e labels))
+      (sym is)
       (show_after (codes_at p (store_codes os)) (finds_in at_env want e ++ flows_at (place_of e) flows)
-      (types_in e labels) (show_codes p (store_codes os))
-      (show_behind (finds_in at_env want e) (flows_at (place_of e) flows) (types_in e labels)
+      (types_in every e labels) (show_codes p (store_codes os))
+      (show_behind (finds_in at_env want e) (flows_at (place_of e) flows) (types_in every e labels)
       (show_read want kw e labels l) (show_flows (place_of e) flows)))
 
   pub show_store : (t : Target) (target : TargetLabels t) (e : Expr) (labels : Labels e) (flows : FlowLabels)
       → LawfulStore m ctx declared env t target e labels flows
-      → Shows (store_finds context at_env t e) (types_in_target t target ++ types_in e labels)
+      → Shows every (store_finds context at_env t e) (types_in_target every t target ++ types_in every e labels)
   show_store (to_name n) target e labels flows l = absurd l
   show_store (to_attribute p o field) target e labels flows l =
       let v = told setting declared table kt env h None tt o target.object l.object in
       let os = attribute_offers m ctx declared field.text (type_of o target.object) in
       let read = attribute_stores context field.text (label_in at_env None o).type in
       let is : read ≡ os = ap (λ (x : Label). attribute_stores context field.text x.type)
-      (label_is None tt o target.object l.object) in
-      show_both (finds_in at_env None o) (stored_finds context at_env read p e) (types_in o target.object)
-      (types_in e labels) (show_read None tt o target.object l.object)
+      (label_is true setting declared table kt env h None tt o target.object l.object) in
+      show_both (finds_in at_env None o) (stored_finds context at_env read p e) (types_in every o target.object)
+      (types_in every e labels) (show_read None tt o target.object l.object)
       (show_stored read os is p e labels (only_well_formed ctx.bases os (stored_types os)
       (fields_stored ctx.bases ctx.classes ck.classes field.text (type_of o target.object) v.well_formed)) l.value)
   show_store (to_index p o i) target e labels flows l =
@@ -187,15 +150,15 @@ module _ (setting : Surroundings) (knows : KnowsRange setting) (returned : Tree)
       let os = index_offers m ctx declared (type_of o target.object) in
       let read = index_stores context (label_in at_env None o).type in
       let is : read ≡ os = ap (λ (x : Label). index_stores context x.type)
-      (label_is None tt o target.object l.object) in
+      (label_is true setting declared table kt env h None tt o target.object l.object) in
       let xs = finds_in at_env None o in
       let ys = finds_in at_env None i in
       let fs = flows_of ctx.bases (label_in at_env None i) (store_index_types read) in
       let zs = flows_at (place_of i) fs in
       let rest = stored_finds context at_env read p e in
-      let a = types_in o target.object in
-      let b = types_in i target.key in
-      let c = types_in e labels in
+      let a = types_in every o target.object in
+      let b = types_in every i target.key in
+      let c = types_in every e labels in
       show_grouped (xs ++ (ys ++ (zs ++ rest))) a b c
       (show_both xs (ys ++ (zs ++ rest)) a (b ++ c) (show_read None tt o target.object l.object)
       (show_both ys (zs ++ rest) b c (show_read None tt i target.key l.key)
@@ -206,15 +169,15 @@ module _ (setting : Surroundings) (knows : KnowsRange setting) (returned : Tree)
   -- ---- what may be missing
 
   pub show_option : (e : Option Expr) (labels : OptionLabels e) → LawfulOption m ctx declared returned env e labels
-      → Shows (option_finds context at_env None e) (types_in_option e labels)
+      → Shows every (option_finds context at_env None e) (types_in_option every e labels)
   show_option None labels l = show_nothing
   show_option (Some e) labels l = show_read None tt e labels l
 
   pub show_return : (p : Place) (e : Option Expr) (labels : OptionLabels e) (flows : FlowLabels)
       → LawfulReturn m ctx declared returned env e labels flows
-      → Shows (return_finds context at_env p e) (types_in_option e labels)
+      → Shows every (return_finds context at_env p e) (types_in_option every e labels)
   show_return p None labels flows l = show_flows p (flows_of ctx.bases (clean NoneType) (returned ∷ []))
   show_return p (Some e) labels flows l =
       let fs = flows_of ctx.bases (label_in at_env (Some returned) e) (returned ∷ []) in
-      show_behind (finds_in at_env (Some returned) e) (flows_at (place_of e) fs) (types_in e labels)
+      show_behind (finds_in at_env (Some returned) e) (flows_at (place_of e) fs) (types_in every e labels)
       (show_read (Some returned) kr e labels l.0) (show_flows (place_of e) fs)

@@ -62,7 +62,7 @@ use Rattle.pc_module_rules.proofs.NotedNames.{note_holds}
 use Rattle.pc_module_rules.proofs.TypedExpressions.{KnowsRange, show_read, show_iterable, show_store, show_option}
 use Rattle.pc_module_rules.proofs.TypedExpressions.{show_return}
 
-module _ (setting : Surroundings) (knows : KnowsRange setting) (returned : Tree)
+module _ (every : Test) (setting : Surroundings) (knows : KnowsRange setting) (returned : Tree)
     (kr : IsWellFormed setting.context.bases returned) (declared : List Tree) where
   open setting use {whole as m, context as ctx, context_well_formed as ck}
 
@@ -86,19 +86,19 @@ module _ (setting : Surroundings) (knows : KnowsRange setting) (returned : Tree)
 
   -- a binding shows the same types with the note of its name
   noted_shows : (valued : Test) (r : NameMeaning) (p : Place) (found : List Note) (b : BindingResult)
-      (rows : List TypeAt) → ShowsMore found b.found rows
-      → ShowsMore found (noted_binding true valued r p b).found rows
+      (rows : List TypeAt) → ShowsMore every found b.found rows
+      → ShowsMore every found (noted_binding true valued r p b).found rows
   noted_shows valued r p found b rows h =
-      subst (λ (l : List TypeAt). ShowsMore found (noted_binding true valued r p b).found l) (append-nil rows)
+      subst (λ (l : List TypeAt). ShowsMore every found (noted_binding true valued r p b).found l) (append-nil rows)
       (more_then found b.found (noted_binding true valued r p b).found rows [] h
       (more b.found (name_note valued b.table b.env r p) []
-      (note_holds (λ (xs : List Note). Shows xs []) show_nothing (λ q d t. record { are = refl }) valued b.table
+      (note_holds (λ (xs : List Note). Shows every xs []) show_nothing (λ q d t. record { are = refl }) valued b.table
       b.env r p)))
 
   module _ (seen : NamesBound) (n : Name) (table : DeclaredTypes) (h : TableFits setting declared seen table) where
     -- binding a labelled value to a name shows no types besides those of the value
     label_shows : (env : Env) (x : ℕ) (want : Option Tree) (p : Place) (label : Label) (found : List Note)
-        → ShowsMore found (bind_label context table env x want p label found).found []
+        → ShowsMore every found (bind_label context table env x want p label found).found []
     label_shows env x want p label found =
         let flows = flows_of ctx.bases label (unwrap_or want label.type ∷ []) in
         more found (flows_at p flows) [] (show_flows p flows)
@@ -108,7 +108,7 @@ module _ (setting : Surroundings) (knows : KnowsRange setting) (returned : Tree)
         → (a a' : Option Tree) → (is_first seen n ≡ true → a ≡ a') → IsWellFormedIfAny ctx.bases a'
         → (e : Expr) (labels : Labels e) (flows : FlowLabels) (after : Env) (found : List Note)
         → LawfulBinding m ctx declared env seen n (res.Local x) a e labels flows after
-        → ShowsMore found (bind_value context table env (res.Local x) a' e found).found (types_in e labels)
+        → ShowsMore every found (bind_value context table env (res.Local x) a' e found).found (types_in every e labels)
     value_shows x i env f a a' s ka e labels flows after found l =
         let o = bound_type table x in
         let b = is_one_of n.text seen in
@@ -121,24 +121,25 @@ module _ (setting : Surroundings) (knows : KnowsRange setting) (returned : Tree)
         let finds = finds_in (standing_here context table env) want e in
         let label = label_in (standing_here context table env) want e in
         let bound = bind_label context table env x want (place_of e) label (found ++ finds) in
-        subst (λ (rows : List TypeAt). ShowsMore found bound.found rows) (append-nil (types_in e labels))
-        (more_then found (found ++ finds) bound.found (types_in e labels) []
-        (more found finds (types_in e labels)
-        (show_read setting knows returned kr declared table h.well_formed env f want kw e labels lw))
+        subst (λ (rows : List TypeAt). ShowsMore every found bound.found rows) (append-nil (types_in every e labels))
+        (more_then found (found ++ finds) bound.found (types_in every e labels) []
+        (more found finds (types_in every e labels)
+        (show_read every setting knows returned kr declared table h.well_formed env f want kw e labels lw))
         (label_shows env x want (place_of e) label (found ++ finds)))
 
     -- a name that means no local binds nothing
     plain_shows : (env : Env) → EnvFits setting declared table env → (e : Expr) (labels : Labels e) (found : List Note)
         → Lawful ctx declared env None e labels
-        → ShowsMore found (found ++ finds_in (standing_here context table env) None e) (types_in e labels)
-    plain_shows env f e labels found l = more found (finds_in (standing_here context table env) None e) (types_in e labels)
-        (show_read setting knows returned kr declared table h.well_formed env f None tt e labels l)
+        → ShowsMore every found (found ++ finds_in (standing_here context table env) None e) (types_in every e labels)
+    plain_shows env f e labels found l = more found (finds_in (standing_here context table env) None e)
+        (types_in every e labels)
+        (show_read every setting knows returned kr declared table h.well_formed env f None tt e labels l)
 
     binding_shows : (r : NameMeaning) → ctx.resolve n.text ≡ r → (env : Env) → EnvFits setting declared table env
         → (a a' : Option Tree) → (is_first seen n ≡ true → a ≡ a') → IsWellFormedIfAny ctx.bases a'
         → (e : Expr) (labels : Labels e) (flows : FlowLabels) (after : Env) (found : List Note)
         → LawfulBinding m ctx declared env seen n r a e labels flows after
-        → ShowsMore found (bind_value context table env r a' e found).found (types_in e labels)
+        → ShowsMore every found (bind_value context table env r a' e found).found (types_in every e labels)
     binding_shows (res.Local x) i env f a a' s ka e labels flows after found l = value_shows x i env f a a' s ka e
         labels flows after found l
     binding_shows (res.Const c) i env f a a' s ka e labels flows after found l = plain_shows env f e labels found
@@ -152,20 +153,20 @@ module _ (setting : Surroundings) (knows : KnowsRange setting) (returned : Tree)
 
     -- the target of a `for`
     target_shows : (r : NameMeaning) (head : Env) (p : Place) (t : Tree) (found : List Note)
-        → ShowsMore found (bind_item context table head r p t found).found []
+        → ShowsMore every found (bind_item context table head r p t found).found []
     target_shows (res.Local x) head p t found = label_shows head x (bound_type table x) p (clean t) found
     target_shows _ head p t found = more_none found
 
     -- a name annotated, with a value or alone
-    annotation_shows : (o : Option Tree) (a : Ann) → Shows (annotation_finds context o n a) []
+    annotation_shows : (o : Option Tree) (a : Ann) → Shows every (annotation_finds context o n a) []
     annotation_shows (Some d) a = show_plain (finding n.place E24 ∷ [])
     annotation_shows None a = show_plain (ann_findings m ctx.bases a)
 
     annotated_shows : (env : Env) → EnvFits setting declared table env → (a : Ann) (e : Option Expr)
         (labels : OptionLabels e) (flows : FlowLabels) (after : Env) (found : List Note)
         → LawfulAnnotated m ctx declared env seen n a e labels flows after
-        → ShowsMore found (annotated_binding context table env (ctx.resolve n.text) n a e found).found
-        (types_in_option e labels)
+        → ShowsMore every found (annotated_binding context table env (ctx.resolve n.text) n a e found).found
+        (types_in_option every e labels)
     annotated_shows env f a None labels flows after found l =
         let o = bound_name context table (ctx.resolve n.text) in
         more found (annotation_finds context o n a) [] (annotation_shows o a)
@@ -174,7 +175,7 @@ module _ (setting : Surroundings) (knows : KnowsRange setting) (returned : Tree)
         let o = bound_name context table (ctx.resolve n.text) in
         let finds = annotation_finds context o n a in
         more_behind found finds (annotated_binding context table env (ctx.resolve n.text) n a (Some e) found).found
-        (types_in e labels)
+        (types_in every e labels)
         (annotation_shows o a)
         (binding_shows (ctx.resolve n.text) refl env f (annotation_at m ctx declared (is_first seen n) t) (Some t)
         (λ q. ap (λ b. annotation_at m ctx declared b t) q) (read_ann_well_formed m ctx.bases ck.smaller a) e labels
@@ -185,21 +186,23 @@ module _ (setting : Surroundings) (knows : KnowsRange setting) (returned : Tree)
   assignment_shows : (seen : NamesBound) (table : DeclaredTypes) (env : Env) (found : List Note) → TableHere seen table
       → EnvFits setting declared table env → (p : Place) (t : Target) (e : Expr) (labels : StmtLabels (assigns p t e))
       (out : Option Env) → LawfulHere seen env (assigns p t e) labels out
-      → ShowsMore found (assign_target context table env t e found).found (types_in_stmt (assigns p t e) labels)
+      → ShowsMore every found (assign_target context table env t e found).found
+      (types_in_stmt every (assigns p t e) labels)
   assignment_shows seen table env found t f p (to_name n) e labels out l =
       let r = ctx.resolve n.text in
-      noted_shows true r n.place found (bind_value context table env r None e found) (types_in e labels.value)
+      noted_shows true r n.place found (bind_value context table env r None e found) (types_in every e labels.value)
       (binding_shows seen n table t r refl env f None None (λ q. refl) tt e labels.value labels.flows l.after found
       l.assignment)
   assignment_shows seen table env found t f p (to_attribute q o field) e labels out l =
       more found (store_finds context (standing_here context table env) (to_attribute q o field) e)
-      (types_in_stmt (assigns p (to_attribute q o field) e) labels)
-      (show_store setting knows returned kr declared table t.well_formed env f (to_attribute q o field) labels.target e
+      (types_in_stmt every (assigns p (to_attribute q o field) e) labels)
+      (show_store every setting knows returned kr declared table t.well_formed env f (to_attribute q o field)
+      labels.target e
       labels.value labels.flows l.assignment.0)
   assignment_shows seen table env found t f p (to_index q o i) e labels out l =
       more found (store_finds context (standing_here context table env) (to_index q o i) e)
-      (types_in_stmt (assigns p (to_index q o i) e) labels)
-      (show_store setting knows returned kr declared table t.well_formed env f (to_index q o i) labels.target e
+      (types_in_stmt every (assigns p (to_index q o i) e) labels)
+      (show_store every setting knows returned kr declared table t.well_formed env f (to_index q o i) labels.target e
       labels.value labels.flows l.assignment.0)
 
   -- ---- statements, suites and branches
@@ -209,30 +212,33 @@ module _ (setting : Surroundings) (knows : KnowsRange setting) (returned : Tree)
   SuiteShows seen b =
       (w : Walk) (env : Env) → w.env ≡ Some env → TableHere seen w.table → EnvFits setting declared w.table env
       → OutFits setting declared w.table w.broken → (labels : SuiteLabels b) (out : Option Env)
-      → LawfulThere seen env b labels out → ShowsMore w.found (walk_suite context w b).found (types_in_suite b labels)
+      → LawfulThere seen env b labels out → ShowsMore every w.found (walk_suite context w b).found
+      (types_in_suite every b labels)
 
   -- the notes of a statement and of those after it show the types in them
   behind_shows : (b : Test) (seen : NamesBound) (env : Env) (table : DeclaredTypes) (found : List Note) (s : Stmt)
       (rest : Stmts) (s0 : StmtLabels s) (r : Behind b (Following (SuiteLabels rest))) (out : Option Env) (v : Walk)
       → ((o : Option Env) → LawfulHere seen env s s0 o
-      → Stands setting returned kr declared (texts (bound_by_stmt s) ++ seen) table v o × ShowsMore found v.found (types_in_stmt s s0))
+      → Stands true setting returned kr declared (texts (bound_by_stmt s) ++ seen) table v o
+      × ShowsMore every found v.found (types_in_stmt every s s0))
       → SuiteShows (texts (bound_by_stmt s) ++ seen) rest
       → BehindRule b r (λ x. LawfulHere seen env s s0 (Some x.env)
       × LawfulThere (texts (bound_by_stmt s) ++ seen) x.env rest x.rest out)
       (LawfulHere seen env s s0 None × AreUndeclared m ctx declared (texts (bound_by_stmt s) ++ seen) (bound_by rest)
       × (out ≡ None))
-      → ShowsMore found (walk_suite context v rest).found (types_in_stmt s s0 ++ behind_list b r
-      (λ x. types_in_suite rest x.rest))
+      → ShowsMore every found (walk_suite context v rest).found (types_in_stmt every s s0 ++ behind_list b r
+      (λ x. types_in_suite every rest x.rest))
   behind_shows true seen env table found s rest s0 r out v first next l =
       let f = first (Some r.env) l.0 in
-      more_then found v.found (walk_suite context v rest).found (types_in_stmt s s0) (types_in_suite rest r.rest) f.1
+      more_then found v.found (walk_suite context v rest).found (types_in_stmt every s s0)
+      (types_in_suite every rest r.rest) f.1
       (next v r.env f.0.env_is f.0.fits f.0.env_fits f.0.broken_fits r.rest out l.1)
   behind_shows false seen env table found s rest s0 r out v first next l =
       let f = first None l.0 in
-      subst (λ (rows : List TypeAt). ShowsMore found (walk_suite context v rest).found rows)
-      (sym (append-nil (types_in_stmt s s0)))
-      (subst (λ (xs : List Note). ShowsMore found xs (types_in_stmt s s0))
-      (sym (none_noted setting returned kr declared v f.0.env_is rest)) f.1)
+      subst (λ (rows : List TypeAt). ShowsMore every found (walk_suite context v rest).found rows)
+      (sym (append-nil (types_in_stmt every s s0)))
+      (subst (λ (xs : List Note). ShowsMore every found xs (types_in_stmt every s s0))
+      (sym (none_noted true setting returned kr declared v f.0.env_is rest)) f.1)
 
   -- a walk over branches fits the labels, and shows just the types under them
   record ForkShows (seen : NamesBound) (found : List Note) (w : BranchesResult) (last : Env) (rows : List TypeAt)
@@ -241,42 +247,43 @@ module _ (setting : Surroundings) (knows : KnowsRange setting) (returned : Tree)
     last_is : w.last ≡ last
     last_fits : EnvFits setting declared w.table last
     broken_fits : OutFits setting declared w.table w.broken
-    shows : ShowsMore found w.found rows
+    shows : ShowsMore every found w.found rows
 
   mutual
     stmt_shows : (seen : NamesBound) (table : DeclaredTypes) (env : Env) (broken : Option Env) (found : List Note)
         → TableHere seen table → EnvFits setting declared table env → OutFits setting declared table broken
         → (s : Stmt) (labels : StmtLabels s) (out : Option Env) → LawfulHere seen env s labels out
-        → ShowsMore found (step context table (Some env) broken found s).found (types_in_stmt s labels)
+        → ShowsMore every found (step context table (Some env) broken found s).found (types_in_stmt every s labels)
     stmt_shows seen table env broken found t f kb (pass p) labels out l = more_none found
     stmt_shows seen table env broken found t f kb (breaks p) labels out l = more_none found
     stmt_shows seen table env broken found t f kb (continues p) labels out l = more_none found
     stmt_shows seen table env broken found t f kb (returns p e) labels out l =
-        more found (return_finds context (standing_here context table env) p e) (types_in_option e labels.value)
-        (show_return setting knows returned kr declared table t.well_formed env f p e labels.value labels.flows l.0)
+        more found (return_finds context (standing_here context table env) p e) (types_in_option every e labels.value)
+        (show_return every setting knows returned kr declared table t.well_formed env f p e labels.value labels.flows
+        l.0)
     stmt_shows seen table env broken found t f kb (asserts p c e) labels out l =
         let no = narrow ctx.bases declared ctx.resolve false c env in
         let fn = truth_fits setting declared table t.well_formed false c env f in
         let xs = finds_in (standing_here context table env) None c in
         let ys = option_finds context (standing_here context table (narrowed_at context table false c env)) None e in
-        let a = types_in c labels.condition in
-        let b = types_in_option e labels.message in
+        let a = types_in every c labels.condition in
+        let b = types_in_option every e labels.message in
         more_then found (found ++ xs) ((found ++ xs) ++ ys) a b
-        (more found xs a (show_read setting knows returned kr declared table t.well_formed env f None tt c
+        (more found xs a (show_read every setting knows returned kr declared table t.well_formed env f None tt c
         labels.condition l.condition))
         (more (found ++ xs) ys b
-        (subst (λ (x : Env). Shows (option_finds context (standing_here context table x) None e) b)
+        (subst (λ (x : Env). Shows every (option_finds context (standing_here context table x) None e) b)
         (truth_same setting declared table t.well_formed false c env f)
-        (show_option setting knows returned kr declared table t.well_formed no fn e labels.message l.message)))
+        (show_option every setting knows returned kr declared table t.well_formed no fn e labels.message l.message)))
     stmt_shows seen table env broken found t f kb (annotated p n a e) labels out l =
         noted_shows (is_some e) (ctx.resolve n.text) n.place found
-        (annotated_binding context table env (ctx.resolve n.text) n a e found) (types_in_option e labels.value)
+        (annotated_binding context table env (ctx.resolve n.text) n a e found) (types_in_option every e labels.value)
         (annotated_shows seen n table t env f a e labels.value labels.flows l.after found l.binding)
     stmt_shows seen table env broken found t f kb (assigns p x e) labels out l = assignment_shows seen table env found t
         f p x e labels out l
     stmt_shows seen table env broken found t f kb (evaluates p e) labels out l =
-        more found (finds_in (standing_here context table env) None e) (types_in e labels)
-        (show_read setting knows returned kr declared table t.well_formed env f None tt e labels l.0)
+        more found (finds_in (standing_here context table env) None e) (types_in every e labels)
+        (show_read every setting knows returned kr declared table t.well_formed env f None tt e labels l.0)
     stmt_shows seen table env broken found t f kb (while_loop p c b) labels out l =
         let kt = t.well_formed in
         let bound = binds_number ctx.resolve (bound_by b) in
@@ -295,10 +302,10 @@ module _ (setting : Surroundings) (knows : KnowsRange setting) (returned : Tree)
           broken = Some (narrowed_at context table false c labels.head);
           found = found ++ xs;
         } in
-        let rows = types_in c labels.condition in
-        let others = types_in_suite b labels.body in
+        let rows = types_in every c labels.condition in
+        let others = types_in_suite every b labels.body in
         subst
-        (λ (h : Env). ShowsMore found (behind_loop context broken (walk_suite context
+        (λ (h : Env). ShowsMore every found (behind_loop context broken (walk_suite context
         (record {
           table = table;
           env = Some (narrowed_at context table true c h);
@@ -307,7 +314,7 @@ module _ (setting : Surroundings) (knows : KnowsRange setting) (returned : Tree)
         })
         b)).found (rows ++ others)) q
         (more_then found (found ++ xs) (walk_suite context start b).found rows others
-        (more found xs rows (show_read setting knows returned kr declared table kt labels.head fh None tt c
+        (more found xs rows (show_read every setting knows returned kr declared table kt labels.head fh None tt c
         labels.condition l.condition))
         (suite_shows seen b start (narrow ctx.bases declared ctx.resolve true c labels.head) (ap Some (sym yes)) t
         (truth_fits setting declared table kt true c labels.head fh) out_of labels.body labels.out l.body))
@@ -332,8 +339,8 @@ module _ (setting : Surroundings) (knows : KnowsRange setting) (returned : Tree)
         let tg = target_says setting returned declared seen n table t (ctx.resolve n.text) refl labels.head fh
         labels.item it.well_formed (place_of e) labels.flows l.inside before l.target in
         let back : other.table ≡ start.table = sym same.table in
-        let rows = types_in_iterable e labels.iterable in
-        let others = types_in_suite b labels.body in
+        let rows = types_in_iterable every e labels.iterable in
+        let others = types_in_suite every b labels.body in
         let body = inside_for context labels.head start in
         let rest = more_behind (found ++ xs) ys (walk_suite context body b).found others
         (show_codes (place_of e) item.codes)
@@ -346,12 +353,12 @@ module _ (setting : Surroundings) (knows : KnowsRange setting) (returned : Tree)
         (subst (λ (u : DeclaredTypes). EnvFits setting declared u labels.head) back (tg.grows labels.head fh))
         labels.body labels.out l.body)) in
         subst
-        (λ (h : Env). ShowsMore found (behind_loop context broken (walk_suite context
+        (λ (h : Env). ShowsMore every found (behind_loop context broken (walk_suite context
         (inside_for context h (with_note context true (ctx.resolve n.text) n.place
         (bind_item context table h (ctx.resolve n.text) (place_of e) item.type before))) b)).found
         (rows ++ others)) q
         (more_then found (found ++ xs) (walk_suite context body b).found rows others
-        (more found xs rows (show_iterable setting knows returned kr declared table kt env f e labels.iterable
+        (more found xs rows (show_iterable every setting knows returned kr declared table kt env f e labels.iterable
         labels.item l.iterable)) rest)
     stmt_shows seen table env broken found t f kb (conditional p bs o) labels out l =
         let start : BranchesResult = record {
@@ -369,24 +376,24 @@ module _ (setting : Surroundings) (knows : KnowsRange setting) (returned : Tree)
           broken = fork.broken;
           found = fork.found;
         } in
-        more_then found fork.found (walk_suite context mid o).found (types_in_branches bs labels.branches)
-        (types_in_suite o labels.otherwise) br.shows
+        more_then found fork.found (walk_suite context mid o).found (types_in_branches every bs labels.branches)
+        (types_in_suite every o labels.otherwise) br.shows
         (suite_shows (texts (bound_by_branches bs) ++ seen) o mid labels.last (ap Some br.last_is) br.fits br.last_fits
         br.broken_fits labels.otherwise labels.out l.otherwise)
 
     pub suite_shows : (seen : NamesBound) (b : Stmts) (w : Walk) (env : Env) → w.env ≡ Some env
         → TableHere seen w.table → EnvFits setting declared w.table env → OutFits setting declared w.table w.broken
         → (labels : SuiteLabels b) (out : Option Env) → LawfulThere seen env b labels out
-        → ShowsMore w.found (walk_suite context w b).found (types_in_suite b labels)
+        → ShowsMore every w.found (walk_suite context w b).found (types_in_suite every b labels)
     suite_shows seen no_stmts w env e t f kb labels out l = more_none w.found
     suite_shows seen (more_stmts s rest) w env e t f kb labels out l =
-        subst (λ (o : Option Env). ShowsMore w.found
+        subst (λ (o : Option Env). ShowsMore every w.found
         (walk_suite context (step context w.table o w.broken w.found s) rest).found
-        (types_in_suite (more_stmts s rest) labels)) (sym e)
+        (types_in_suite every (more_stmts s rest) labels)) (sym e)
         (behind_shows (completes s) seen env w.table w.found s rest labels.first labels.behind out
         (step context w.table (Some env) w.broken w.found s)
         (λ o y. (
-          stmt_stands setting returned kr declared seen w.table env w.broken w.found t f kb s labels.first o y,
+          stmt_stands true setting returned kr declared seen w.table env w.broken w.found t f kb s labels.first o y,
           stmt_shows seen w.table env w.broken w.found t f kb s labels.first o y,
         ))
         (suite_shows (texts (bound_by_stmt s) ++ seen) rest) l)
@@ -396,7 +403,7 @@ module _ (setting : Surroundings) (knows : KnowsRange setting) (returned : Tree)
         → (bs : Branches) (labels : BranchesLabels bs) (last : Env) → LawfulBranches m ctx declared returned seen env bs
         labels last
         → ForkShows (texts (bound_by_branches bs) ++ seen) w.found (walk_branches context w bs) last
-        (types_in_branches bs labels)
+        (types_in_branches every bs labels)
     branches_show seen w env e t f kb no_branches labels last l = record {
       fits = t;
       last_is = e ∙ sym l;
@@ -415,7 +422,7 @@ module _ (setting : Surroundings) (knows : KnowsRange setting) (returned : Tree)
           broken = w.broken;
           found = w.found ++ xs;
         } in
-        let body = suite_stands setting returned kr declared seen start
+        let body = suite_stands true setting returned kr declared seen start
         (narrow ctx.bases declared ctx.resolve true c env) (ap Some (sym yes)) t
         (truth_fits setting declared w.table kt true c env f) kb b labels.body labels.out l.body in
         let shown = suite_shows seen b start (narrow ctx.bases declared ctx.resolve true c env) (ap Some (sym yes)) t
@@ -432,9 +439,9 @@ module _ (setting : Surroundings) (knows : KnowsRange setting) (returned : Tree)
         (narrow ctx.bases declared ctx.resolve false c env) (sym no) body.fits
         (body.grows (narrow ctx.bases declared ctx.resolve false c env)
         (truth_fits setting declared w.table kt false c env f)) body.broken_fits rest labels.rest last l.others in
-        let at_condition = types_in c labels.condition in
-        let inside = types_in_suite b labels.body in
-        let further = types_in_branches rest labels.rest in
+        let at_condition = types_in every c labels.condition in
+        let inside = types_in_suite every b labels.body in
+        let further = types_in_branches every rest labels.rest in
         subst (λ (x : Env). ForkShows (texts (bound_by_branches (more_branches c b rest)) ++ seen) w.found
         (walk_branches context (record {
           table = w.table;
@@ -451,7 +458,8 @@ module _ (setting : Surroundings) (knows : KnowsRange setting) (returned : Tree)
           broken_fits = others.broken_fits;
           shows = more_then w.found (w.found ++ xs) (walk_branches context next rest).found at_condition
               (inside ++ further)
-              (more w.found xs at_condition (show_read setting knows returned kr declared w.table kt env f None tt c
+              (more w.found xs at_condition (show_read every setting knows returned kr declared w.table kt env f None
+              tt c
               labels.condition l.condition))
               (more_then (w.found ++ xs) u.found (walk_branches context next rest).found inside further shown
               others.shows);

@@ -1,4 +1,5 @@
 pub mod Computed
+pub mod FirstAt
 pub mod FlowsOfExpressions
 pub mod FlowsOfModules
 pub mod FlowsOfStatements

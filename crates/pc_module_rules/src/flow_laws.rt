@@ -3,7 +3,8 @@
 ghost use Rattle.pc_module_rules.specs.Laws.Flows.{DynamicFlowsAreComputed, DynamicFlowsAreDynamic};
 ghost use Rattle.pc_module_rules.specs.Laws.Flows.{DynamicFlowsAreFound};
 ghost use Rattle.pc_module_rules.specs.Laws.Flows.{DynamicFlowsAreUnique, DynamicFlowsAreWellFormed};
-ghost use Rattle.pc_module_rules.specs.Laws.Flows.{FlowsAreComputed, WrongFlowsAreFound};
+ghost use Rattle.pc_module_rules.specs.Laws.Flows.{FirstFlowsAreNoted, FlowsAreComputed};
+ghost use Rattle.pc_module_rules.specs.Laws.Flows.{WrongFlowsAreFound};
 ghost use Rattle.pc_module_rules.specs.Laws.Flows.{WrongFlowsAreWellFormed, WrongFlowsAreWrong};
 
 /// The law that A1 is found at a place of a module exactly if a type flows dynamically there: if a flow under its
@@ -44,4 +45,10 @@ pub fn wrong_flows_are_wrong()
 /// with that code, under its lawful labelling.
 pub fn computed_flows_stand_under_labels()
     ensures { FlowsAreComputed }
+{}
+
+/// The law that the first flow with a code that a walk notes at a place, where it keeps types, is the first flow there
+/// with that code, under the module's lawful labelling.
+pub fn first_flows_are_noted()
+    ensures { FirstFlowsAreNoted }
 {}

@@ -1,8 +1,8 @@
 -- The laws on the flows of a module: A1 is found at a place exactly if a flow under the lawful labelling of the module
 -- has that code; the first one there flows only because Any is consistent with every type. The same of E12, whose first
--- flow is not assignable. Both types of each are well-formed; and the computed flow is the first one. Own rule of the
--- profile.
-use Rattle.std.specs.Prelude.{◌≡◌, ◌↔◌, List, Option, Some, None, false}
+-- flow is not assignable. Both types of each are well-formed; and the computed flow is the first one, also in a walk
+-- that keeps types. Own rule of the profile.
+use Rattle.std.specs.Prelude.{◌≡◌, ◌↔◌, List, [], Option, Some, None, true, false}
 use Rattle.pc_source.specs.declared.place.Place.{Place}
 use Rattle.pc_tree.specs.declared.code.Code.{Code}
 use Rattle.pc_tree.specs.declared.code.Code.TheVariants.{A1, E12}
@@ -14,10 +14,12 @@ use Rattle.pc_types.specs.Assignable.{Assignable}
 use Rattle.pc_types.specs.WellFormed.{IsWellFormed}
 use Rattle.pc_class.specs.Bases.{bases_of}
 use Rattle.pc_notes.specs.Notes.{Note, flow_noted}
-use Rattle.pc_module_rules.specs.Modules.{IsFinding}
+use Rattle.pc_module_rules.specs.FirstAt.{first_flow_at}
+use Rattle.pc_module_rules.specs.Modules.{Labelling, IsLawful, IsFinding}
 use Rattle.pc_rules.specs.Labels.{is_of_scopes}
 use Rattle.pc_module_rules.specs.Computed.DynamicFlows.{computed_flow, dynamic_flow}
-use Rattle.pc_module_rules.specs.FlowsOfModules.{FlowsWith, FlowsDynamically, HasDynamicFlow, FlowsWrongly}
+use Rattle.pc_module_rules.specs.Computed.Modules.{module_notes}
+use Rattle.pc_module_rules.specs.FlowsOfModules.{coded_flows, FlowsWith, FlowsDynamically, HasDynamicFlow, FlowsWrongly}
 use Rattle.pc_module_rules.specs.FlowsOfModules.{HasWrongFlow}
 
 -- notes hold exactly the dynamic flows of a module: at each place, the two types of the dynamic flow there
@@ -67,6 +69,12 @@ WrongFlowsAreWellFormed = (m : Module) (p : Place) (s t : Tree) → FlowsWrongly
 abbrev pub FlowsAreComputed : Type 0
 FlowsAreComputed = (c : Code) → is_of_scopes c ≡ false → (m : Module) (p : Place) (s t : Tree)
     → computed_flow c m p ≡ Some (s, t) ↔ FlowsWith c m p s t
+
+-- the law that the first flow noted with a code at a place, by a walk that keeps types, is the first flow there with
+-- that code under the lawful labelling; scope analysis reports no flow
+abbrev pub FirstFlowsAreNoted : Type 0
+FirstFlowsAreNoted = (c : Code) → is_of_scopes c ≡ false → (m : Module) (labels : Labelling m) → IsLawful m labels
+    → (p : Place) → flow_noted c p (module_notes true m []) ≡ first_flow_at p (coded_flows c m labels)
 
 -- types of a store that mean the two types that flow dynamically at a place, or none if A1 is not found there
 abbrev pub ExplainsPlace : {Store Ty : Type 0} → (has : Store → Ty → Type 0) → (tree : Ty → Tree) → Module → Place
