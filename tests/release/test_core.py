@@ -125,7 +125,8 @@ class Core(RoomCase):
         self.plant("    return item.price * count\n", "    return shop.items.get(name)\n")
         done = self.command("--strict", "--output", "full")
         self.assertEqual(done.returncode, 1)
-        self.assertIn("error E12 flow", done.stdout)
+        said = "error E12 flow: cannot return None | Item from price_of, which returns int | Refused"
+        self.assertIn(said, done.stdout)
         self.assertIn("return shop.items.get(name)", done.stdout)
 
     def test_guards_of_another_text_are_refused(self) -> None:

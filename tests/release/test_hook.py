@@ -9,6 +9,8 @@ from typing import Dict
 
 from room import ROOT, Done, RoomCase, run
 
+# What is wrong in examples/ages.py
+SAID = "cannot return int | None from age_of, which returns int"
 CONFIG = """\
 repos:
 - repo: {clone}
@@ -75,7 +77,7 @@ class Hook(RoomCase):
         done = self.run_hook()
         self.assertEqual(done.returncode, 1, done.stdout + done.stderr)
         self.assertRegex(done.stdout, r"pycheck\.+Failed")
-        self.assertIn("ages.py:4:12: E12 flow", done.stdout)
+        self.assertIn(f"ages.py:4:12: E12 flow: {SAID}", done.stdout)
         shutil.copy(ROOT / "examples" / "ages_mended.py", self.project / "ages.py")
         done = self.run_hook()
         self.assertEqual(done.returncode, 0, done.stdout + done.stderr)
@@ -93,14 +95,14 @@ class Hook(RoomCase):
         self.assert_hook(0, "0 files: 0 errors, 0 dynamic places, 2 left out as not marked")
         ages = (ROOT / "examples" / "ages.py").read_text(encoding="utf-8")
         self.write("core/ages.py", "# pycheck: core\n" + ages)
-        self.assert_hook(1, "core/ages.py:5:12: E12 flow", "2 left out as not marked")
+        self.assert_hook(1, f"core/ages.py:5:12: E12 flow: {SAID}", "2 left out as not marked")
 
     def test_with_a_core_it_checks_that_alone(self) -> None:
         self.configure("", own=False)
         self.write("web.py", ORDINARY)
         self.write("pyproject.toml", '[tool.pycheck]\ncore = ["core"]\n')
         self.write("core/ages.py", (ROOT / "examples" / "ages.py").read_text(encoding="utf-8"))
-        self.assert_hook(1, "core/ages.py:4:12: E12 flow", "2 left out as outside the core")
+        self.assert_hook(1, f"core/ages.py:4:12: E12 flow: {SAID}", "2 left out as outside the core")
         self.write("core/ages.py", (ROOT / "examples" / "ages_mended.py").read_text(encoding="utf-8"))
         self.assert_hook(0, "1 file: 0 errors, 0 dynamic places, 2 left out as outside the core")
 
@@ -110,7 +112,7 @@ class Hook(RoomCase):
         done = self.command("pre-commit", "try-repo", str(self.clone), "pycheck", "--all-files", cwd=self.project)
         self.assertEqual(done.returncode, 1, done.stdout + done.stderr)
         self.assertIn(self.revision, done.stdout)
-        self.assertIn("ages.py:5:12: E12 flow", done.stdout)
+        self.assertIn(f"ages.py:5:12: E12 flow: {SAID}", done.stdout)
 
 
 class Action(RoomCase):

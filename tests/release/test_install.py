@@ -48,7 +48,8 @@ class Tree(RoomCase):
         for words in ([self.site / "bin" / "pycheck-all"], [sys.executable, "-m", "pycheck_all"]):
             found = run([*words, module], self.room, self.environment)
             self.assertEqual((found.returncode, found.stderr), (1, ""))
-            self.assertIn("ages.py:4:12: E12 flow", found.stdout)
+            said = "ages.py:4:12: E12 flow: cannot return int | None from age_of, which returns int"
+            self.assertIn(said, found.stdout)
 
     def test_a_folder(self) -> None:
         self.assert_installed(self.install(str(self.clone)))

@@ -3,7 +3,7 @@ from __future__ import annotations
 
 import json
 
-from support import CLEAN, DYNAMIC, ERROR, HEADER, REFUSED, Test
+from support import CLEAN, DYNAMIC, ERROR, HEADER, OPERATOR, REFUSED, Test
 
 LINE = '    print(1 + "a")\n'
 
@@ -59,7 +59,7 @@ class Baselines(Test):
             (
                 1,
                 [
-                    "a.py:5:11: E13 operator",
+                    f"a.py:5:11: {OPERATOR}",
                     'a.py: E13 is known but gone: print(1 + "a")',
                     "1 file: 1 error, 0 dynamic places, 1 known but gone",
                 ],
@@ -70,17 +70,17 @@ class Baselines(Test):
         self.write("a.py", ERROR)
         self.check("--write-baseline", "known.json", ".")
         self.write("b.py", ERROR)
-        self.assertEqual(self.known(".")[1], ["b.py:4:11: E13 operator", "2 files: 1 error, 0 dynamic places, 1 known"])
+        self.assertEqual(self.known(".")[1], [f"b.py:4:11: {OPERATOR}", "2 files: 1 error, 0 dynamic places, 1 known"])
         text = (self.folder / "known.json").read_text(encoding="utf-8")
         self.write("known.json", text.replace("E13", "E12"))
-        self.assertEqual(self.known("a.py")[1][0], "a.py:4:11: E13 operator")
+        self.assertEqual(self.known("a.py")[1][0], f"a.py:4:11: {OPERATOR}")
 
     def test_as_often_as_written(self) -> None:
         self.write("a.py", self.module(LINE, LINE))
         self.check("--write-baseline", "known.json", ".")
         self.write("a.py", self.module(LINE, LINE, LINE))
         self.assertEqual(
-            self.known("."), (1, ["a.py:7:11: E13 operator", "1 file: 1 error, 0 dynamic places, 2 known"])
+            self.known("."), (1, [f"a.py:7:11: {OPERATOR}", "1 file: 1 error, 0 dynamic places, 2 known"])
         )
         self.write("a.py", self.module())
         self.assertEqual(
@@ -148,7 +148,7 @@ class Baselines(Test):
         self.check("--write-baseline", "known.json", ".")
         self.write("b.py", ERROR)
         done = self.check("--baseline", "known.json", "--write-baseline", "new.json", ".")
-        self.assertEqual((done.status, done.output.splitlines()[0]), (1, "b.py:4:11: E13 operator"))
+        self.assertEqual((done.status, done.output.splitlines()[0]), (1, f"b.py:4:11: {OPERATOR}"))
         self.assertEqual(self.check("--baseline", "new.json", ".").status, 0)
 
     def test_every_form_counts_what_is_known(self) -> None:

@@ -5,7 +5,7 @@ import json
 import re
 from xml.etree import ElementTree
 
-from support import CLEAN, DYNAMIC, ERROR, HEADER, REFUSED, ROOT, Test
+from support import ANY_OPERATOR, CLEAN, DYNAMIC, ERROR, HEADER, OPERATOR, REFUSED, ROOT, Test
 
 BOTH = HEADER + 'def f(x):\n    return x + 1\n\ndef main():\n    print(f(1))\n    print(1 + "a")\n\nmain()\n'
 
@@ -18,7 +18,7 @@ class Hiding(Test):
         self.write("a.py", BOTH)
         self.write("b.py", REFUSED)
         self.counts = "2 files: 1 error, 1 dynamic place, 1 refused"
-        self.places = {"E13": "a.py:8:11: E13 operator", "A2": "a.py:4:12: A2 any-operator",
+        self.places = {"E13": f"a.py:8:11: {OPERATOR}", "A2": f"a.py:4:12: {ANY_OPERATOR}",
                        "N2": "b.py:5:11: N2 refused: excluded operator"}
 
     def test_what_is_shown_and_what_is_told(self) -> None:

@@ -8,7 +8,7 @@ import sys
 import time
 from pathlib import Path
 
-from support import CLEAN, COMMAND, ERROR, HEADER, REFUSED, Done, Test, variables
+from support import CLEAN, COMMAND, ERROR, HEADER, OPERATOR, REFUSED, Done, Test, variables
 
 NOT_CHECKED = "3 files: 2 errors, 0 dynamic places, 1 not checked"
 
@@ -35,7 +35,7 @@ class Folders(Test):
         self.nest("b", 1500)
         done = self.check(".")
         self.assertEqual((done.status, len(done.output.splitlines())), (1, 4))
-        self.assertEqual(done.output.splitlines()[1], "b/" * 1500 + "m.py:4:11: E13 operator")
+        self.assertEqual(done.output.splitlines()[1], "b/" * 1500 + f"m.py:4:11: {OPERATOR}")
 
     def test_nested_folders_in_a_checkout(self) -> None:
         for name in ("HEAD", "objects/x", "refs/x"):
@@ -51,7 +51,7 @@ class Folders(Test):
         done = self.check(".")
         lines = done.output.splitlines()
         self.assertEqual((done.status, lines[-1]), (3, NOT_CHECKED))
-        self.assertEqual((lines[0], lines[2]), ("a.py:4:11: E13 operator", "z.py:4:11: E13 operator"))
+        self.assertEqual((lines[0], lines[2]), (f"a.py:4:11: {OPERATOR}", f"z.py:4:11: {OPERATOR}"))
         self.assertTrue(lines[1].endswith("bbb: cannot be read: File name too long"))
 
 
@@ -145,7 +145,7 @@ class Time(Test):
         for name in "abcdef":
             self.write(f"{name}.py", ERROR)
         program = self.program(
-            'case "$3" in\n'
+            'case "$file" in\n'
             "*b.py) exec sleep 100;;\n"
             "*c.py) sleep 100;;\n"
             "*d.py) exec sleep 100 >&- 2>&-;;\n"
@@ -158,12 +158,12 @@ class Time(Test):
         self.assertEqual(done.status, 3)
         late = [f"{name}.py: pycheck did not end within 8 seconds" for name in "bcde"]
         counts = "6 files: 2 errors, 0 dynamic places, 4 not checked"
-        shown = ["a.py:4:11: E13 operator", *late, "f.py:4:11: E13 operator", counts]
+        shown = [f"a.py:4:11: {OPERATOR}", *late, f"f.py:4:11: {OPERATOR}", counts]
         self.assertEqual(done.output.splitlines(), shown)
 
     def test_refusals_that_take_too_long(self) -> None:
         self.write("b.py", REFUSED)
-        program = self.program('case "$3" in */module.py) exec sleep 100;; esac\nreal "$@"')
+        program = self.program('case "$file" in */module.py) exec sleep 100;; esac\nreal "$@"')
         done = self.check("--program", program, "--all-refusals", "--timeout", "6", "b.py")
         self.assertEqual(done.status, 2)
         self.assertEqual(
@@ -227,16 +227,16 @@ class Other(Test):
     def test_files_that_change_meanwhile(self) -> None:
         for name in ("a.py", "b.py", "c.py"):
             self.write(name, ERROR)
-        gone = 'rm "$3"'
-        changes = (gone, f'{gone}; mkfifo "$3"', ': >"$3"', f'{gone}; ln -s /dev/zero "$3"', f'{gone}; mkdir "$3"')
+        gone = 'rm "$file"'
+        changes = (gone, f'{gone}; mkfifo "$file"', ': >"$file"', f'{gone}; ln -s /dev/zero "$file"', f'{gone}; mkdir "$file"')
         for change in changes:
             with self.subTest(change):
                 answer = f'"{os.environ["PYCHECK"]}" "$@"; status=$?'
-                program = self.program(f'{answer}; case "$3" in *b.py) {change};; esac; exit $status')
+                program = self.program(f'{answer}; case "$file" in *b.py) {change};; esac; exit $status')
                 done = self.check("--program", program, "a.py", "b.py", "c.py")
                 lines = done.output.splitlines()
                 self.assertEqual((done.status, lines[-1]), (3, NOT_CHECKED))
-                self.assertEqual((lines[0], lines[2]), ("a.py:4:11: E13 operator", "c.py:4:11: E13 operator"))
+                self.assertEqual((lines[0], lines[2]), (f"a.py:4:11: {OPERATOR}", f"c.py:4:11: {OPERATOR}"))
                 self.assertTrue(lines[1].startswith("b.py: "))
                 subprocess.run(["rm", "-rf", str(self.folder / "b.py")], check=True)
                 self.write("b.py", ERROR)

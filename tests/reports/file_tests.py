@@ -8,7 +8,7 @@ import sys
 import traceback
 import unittest
 
-from support import CLEAN, COMMAND, DYNAMIC, ERROR, REFUSED, Test, variables
+from support import CLEAN, COMMAND, DYNAMIC, ERROR, OPERATOR, REFUSED, Test, variables
 
 GIT = shutil.which("git")
 
@@ -90,7 +90,7 @@ class Files(Test):
 
     def test_standard_input(self) -> None:
         done = self.check("-", given=ERROR.encode())
-        self.assertEqual((done.status, done.output.splitlines()[0]), (1, "<stdin>:4:11: E13 operator"))
+        self.assertEqual((done.status, done.output.splitlines()[0]), (1, f"<stdin>:4:11: {OPERATOR}"))
         done = self.check("--stdin-name", "src/a b.py", "-", "-", given=REFUSED.encode())
         self.assertEqual(done.status, 2)
         self.assertEqual(
@@ -111,7 +111,7 @@ class Files(Test):
         with open(path, "rb") as file:
             words = [sys.executable, str(COMMAND), "/dev/stdin"]
             done = subprocess.run(words, stdin=file, capture_output=True, env=variables({}))
-        self.assertEqual(done.stdout.decode().splitlines()[0], "/dev/stdin:4:11: E13 operator")
+        self.assertEqual(done.stdout.decode().splitlines()[0], f"/dev/stdin:4:11: {OPERATOR}")
 
     def test_names(self) -> None:
         for name in ("-a.py", " b .py", "größe 𐀀\u00a0.py", "c\nd.py", "e\x9b.py"):
@@ -119,7 +119,7 @@ class Files(Test):
         with open(os.fsencode(self.folder) + b"/n\xff.py", "wb") as file:
             file.write(ERROR.encode())
         wanted = [" b .py", "-a.py", "c\\nd.py", "e\\x9b.py", "größe 𐀀\u00a0.py", "n\\xff.py"]
-        self.assertEqual(self.lines(".")[:-1], [f"{name}:4:11: E13 operator" for name in wanted])
+        self.assertEqual(self.lines(".")[:-1], [f"{name}:4:11: {OPERATOR}" for name in wanted])
         self.assertEqual(self.check("--", "-a.py").status, 1)
 
     def test_what_cannot_be_read(self) -> None:
@@ -148,7 +148,7 @@ class Files(Test):
         self.assertEqual(
             output.splitlines(),
             [
-                "a.py:4:11: E13 operator",
+                f"a.py:4:11: {OPERATOR}",
                 f"b.py: {reason}",
                 f"c: {reason}",
                 "3 files: 1 error, 0 dynamic places, 2 not checked",

@@ -188,6 +188,44 @@ class Details(Test):
         self.write("a,b:c%.py", ERROR)
         self.assertTrue(self.lines("--output", "github", ".")[0].startswith("::error file=a%2Cb%3Ac%25.py,line=4,"))
 
+    def test_other_places(self) -> None:
+        function = "def f(a: bool):\n    if a:\n        b = 1\n    while a:\n        b = 2\n    print(b)\n"
+        self.write("a.py", HEADER + function + "\ndef main():\n    f(True)\n\nmain()\n")
+        said = "b may have no value yet"
+        places = [(5, 9), (7, 9)]
+        self.assertEqual(self.lines("a.py")[0], f"a.py:8:11: E04 unassigned: {said}, see 5:9, 7:9")
+        full = self.lines("--output", "full", "a.py")
+        shown = ["  5 |         b = 1", "    |         ^ a binding", "  7 |         b = 2", "    |         ^ a binding"]
+        self.assertEqual(full[1:7], ["  8 |     print(b)", "    |           ^", *shown])
+        for form in ("github", "gitlab", "junit", "sarif"):
+            with self.subTest(form):
+                self.assertIn(f"{said}, see 5:9, 7:9. ", self.check("--output", form, "a.py").output)
+        finding = json.loads(self.check("--output", "json", "a.py").output)["files"][0]["findings"][0]
+        self.assertEqual(finding["detail"]["text"], said)
+        self.assertEqual([(it["line"], it["column"]) for it in finding["detail"]["places"]], places)
+        # The lines have 35, 1, 16, 10, 14, 13 and 14 bytes
+        self.assertEqual([it["byte"] for it in finding["detail"]["places"]], [62 + 8, 89 + 8])
+        result = json.loads(self.check("--output", "sarif", "a.py").output)["runs"][0]["results"][0]
+        regions = [it["physicalLocation"]["region"] for it in result["relatedLocations"]]
+        found = [(it["startLine"], it["startColumn"], it["endColumn"]) for it in regions]
+        self.assertEqual(found, [(5, 9, 10), (7, 9, 10)])
+        self.assertEqual([it["message"]["text"] for it in result["relatedLocations"]], ["a binding"] * 2)
+        self.check("--page", "page.html", "a.py")
+        page = (self.folder / "page.html").read_text(encoding="utf-8")
+        self.assertIn(f'{said}, see <a href="#f0-l5">5:9</a>, <a href="#f0-l7">7:9</a>. ', page)
+
+    def test_many_other_places(self) -> None:
+        bound = "".join(f"    if a:\n        b = {it}\n" for it in range(9))
+        self.write("a.py", HEADER + f"def f(a: bool):\n{bound}    print(b)\n\ndef main():\n    f(True)\n\nmain()\n")
+        self.assertEqual(self.check("--output", "full", "a.py").output.count("^ a binding"), 3)
+
+    def test_columns_of_other_places_count_characters(self) -> None:
+        line = 'def f(é漢: str = "𐀀", é漢: int = 1):\n    pass\n'
+        self.write("a.py", HEADER + line + "\ndef main():\n    pass\n\nmain()\n")
+        self.assertEqual(self.lines("a.py")[0], "a.py:3:22: E01 twice: é漢 is already a parameter, see 3:7")
+        lines = self.lines("--output", "full", "a.py")
+        self.assertEqual((lines[2][28:], lines[4][12:]), ("^^^", "^^^ the earlier one"))
+
     def test_documents_name_any_path(self) -> None:
         self.write("a&\x01\n<b>.py", ERROR)
         name = r"a&\x01\n<b>.py"

@@ -15,7 +15,7 @@ from types import ModuleType
 from typing import Any, Callable, Dict, List
 
 from guards_modules import made_core
-from support import CLEAN, DYNAMIC, ERROR, HEADER, PACKAGE, REFUSED, ROOT, Test
+from support import ANY_OPERATOR, CLEAN, DYNAMIC, ERROR, HEADER, OPERATOR, PACKAGE, REFUSED, ROOT, Test
 
 
 from pycheck_all.guard_text import PROMISE
@@ -195,8 +195,8 @@ class Writing(Guards):
     def test_a_core_that_is_not_clean(self) -> None:
         withheld = "core.py: no guards, since the promise excludes what is listed; --guards-anyway writes them\n"
         rows = [
-            (ERROR, "core.py:4:11: E13 operator", "1 error, 0 dynamic places"),
-            (DYNAMIC, "core.py:4:12: A2 any-operator", "0 errors, 1 dynamic place"),
+            (ERROR, f"core.py:4:11: {OPERATOR}", "1 error, 0 dynamic places"),
+            (DYNAMIC, f"core.py:4:12: {ANY_OPERATOR}", "0 errors, 1 dynamic place"),
         ]
         for text, line, counts in rows:
             with self.subTest(line):

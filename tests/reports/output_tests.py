@@ -7,7 +7,7 @@ import re
 from typing import Any, Dict, List
 from xml.etree import ElementTree
 
-from support import CLEAN, ERROR, HEADER, Test
+from support import CLEAN, ERROR, HEADER, OPERATOR, Test
 
 from pycheck_all import texts
 
@@ -98,7 +98,7 @@ class Output(Harmless):
 
     def test_a_line_begins_with_no_command(self) -> None:
         self.write("::stop-commands::tok.py", ERROR)
-        self.assertEqual(self.lines(".")[0], "\\x3a:stop-commands::tok.py:4:11: E13 operator")
+        self.assertEqual(self.lines(".")[0], f"\\x3a:stop-commands::tok.py:4:11: {OPERATOR}")
         self.assertEqual(self.lines("--output", "full", ".")[0][:26], "\\x3a:stop-commands::tok.py")
         github = self.lines("--output", "github", ".")
         self.assertTrue(github[0].startswith("::error file=%3A%3Astop-commands%3A%3Atok.py,line=4,"))

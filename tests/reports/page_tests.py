@@ -61,7 +61,7 @@ class Pages(Test):
         kinds = [kind for kind, _ in outline.places]
         self.assertEqual([kinds.count(kind) for kind in ("error", "dynamic", "refused")], [8, 2, 3])
         self.assertIn(
-            "A1 any-flow: a value that fits where it goes only if `Any` stands for the right type\nAny flows into int",
+            "A1 any-flow: cannot tell whether Any fits parameter n: int of increase",
             [said for _, said in outline.places],
         )
         self.assertEqual(len(outline.names), len(set(outline.names)))

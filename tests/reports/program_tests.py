@@ -3,13 +3,14 @@ from __future__ import annotations
 
 import os
 import re
+import resource
 import shutil
 import signal
 import subprocess
 import sys
 import time
 
-from support import CLEAN, COMMAND, ERROR, HEADER, REFUSED, ROOT, Test, variables
+from support import CLEAN, COMMAND, ERROR, HEADER, OPERATOR, REFUSED, ROOT, Test, variables
 
 
 class Programs(Test):
@@ -22,12 +23,12 @@ class Programs(Test):
 
     def told(self, lines: str) -> str:
         """Returns the message about b.py, if its program does this; the others are checked all the same."""
-        program = self.program(f'case "$3" in *b.py) {lines};; esac\nreal "$@"')
+        program = self.program(f'case "$file" in *b.py) {lines};; esac\nreal "$@"')
         done = self.check("--program", program, "a.py", "b.py", "c.py")
         shown = done.output.splitlines()
         self.assertEqual(done.status, 3)
-        self.assertEqual(shown[0], "a.py:4:11: E13 operator")
-        self.assertEqual(shown[2:], ["c.py:4:11: E13 operator", "3 files: 2 errors, 0 dynamic places, 1 not checked"])
+        self.assertEqual(shown[0], f"a.py:4:11: {OPERATOR}")
+        self.assertEqual(shown[2:], [f"c.py:4:11: {OPERATOR}", "3 files: 2 errors, 0 dynamic places, 1 not checked"])
         return shown[1]
 
     def test_killed(self) -> None:
@@ -39,6 +40,22 @@ class Programs(Test):
 
     def test_its_own_reason(self) -> None:
         self.assertEqual(self.told("echo out of memory >&2; exit 3"), "b.py: out of memory")
+
+    def test_details_that_need_too_much_memory(self) -> None:
+        lacks = 'echo out of memory >&2; exit 3'
+        program = self.program(f'case "$*" in *--details*) {lacks};; esac\nreal "$@"')
+        self.assertEqual(self.check("--program", program, "a.py").output.splitlines()[0], "a.py:4:11: E13 operator")
+        others = self.program(f'case "$*" in *--json*) real "$@";; *) {lacks};; esac')
+        self.write("d.py", HEADER + "def f() -> None:\n    pass\n\n\ndef f() -> None:\n    pass\n\n\ndef main() -> None:\n    f()\n\n\nmain()\n")
+        done = self.check("--program", others, "d.py")
+        self.assertIn("f is already bound", done.output)
+        self.assertEqual(done.status, 1)
+
+    def test_memory_of_the_program(self) -> None:
+        if not hasattr(resource, "prlimit"):
+            self.skipTest("this system bounds no other process")
+        # The bound is there a moment after the program has begun
+        self.assertEqual(self.told("sleep 0.3; ulimit -v >&2; exit 3"), "b.py: 1048576")
 
     def test_reports_that_are_none(self) -> None:
         unread = "b.py: the report of pycheck cannot be read: "
@@ -83,7 +100,7 @@ class Programs(Test):
         self.assertEqual(
             done.stdout.decode().splitlines(),
             [
-                "a.py:4:11: E13 operator",
+                f"a.py:4:11: {OPERATOR}",
                 f"b.py: {gone}",
                 f"c.py: {gone}",
                 "3 files: 1 error, 0 dynamic places, 2 not checked",

@@ -8,13 +8,13 @@ import subprocess
 import unittest
 from typing import Any, Optional
 
-from support import CLEAN, DYNAMIC, ERROR, REFUSED, Test
+from support import CLEAN, DYNAMIC, ERROR, OPERATOR, REFUSED, Test
 
 from pycheck_all import texts
 
 GIT = shutil.which("git")
 # The report of the rules on ERROR, which follows its path
-FOUND = ":4:11: E13 operator"
+FOUND = f":4:11: {OPERATOR}"
 COUNTS = "0 errors, 0 dynamic places"
 
 
@@ -140,7 +140,7 @@ class Marks(Project):
         self.write("a.py", "# pycheck: core\n" + ERROR)
         self.write("b.py", REFUSED)
         done = self.check("--only-marked", "a.py", "b.py")
-        self.assertEqual((done.status, done.output.splitlines()[0]), (1, "a.py:5:11: E13 operator"))
+        self.assertEqual((done.status, done.output.splitlines()[0]), (1, f"a.py:5:11: {OPERATOR}"))
         done = self.check("--only-marked", "b.py")
         self.assertEqual((done.status, done.output), (0, f"0 files: {COUNTS}, 1 left out as not marked\n"))
 

@@ -268,7 +268,7 @@ class Refusals(Test):
 
     def test_a_program_that_fails_meanwhile(self) -> None:
         self.write("a.py", REFUSED)
-        program = self.program('case "$3" in *module.py) kill -9 $$;; esac; real "$@"')
+        program = self.program('case "$file" in *module.py) kill -9 $$;; esac; real "$@"')
         done = self.check("--program", program, "--all-refusals", "a.py")
         self.assertEqual(done.status, 2)
         self.assertEqual(

@@ -6,7 +6,7 @@ import re
 from typing import List, Tuple
 
 from pycheck_all import codes, silent
-from support import CLEAN, ERROR, HEADER, Test
+from support import CLEAN, ERROR, HEADER, OPERATOR, Test
 
 # A silent error at line 5, column 9, and one that is heard at line 8, column 11
 SILENT = HEADER + (
@@ -132,7 +132,7 @@ class Said(Test):
 
     def test_concise_says_it_in_the_last_line_alone(self) -> None:
         self.write("silent.py", SILENT)
-        lines = ["silent.py:5:9: E12 flow", "silent.py:8:11: E13 operator"]
+        lines = ["silent.py:5:9: E12 flow: cannot return None from f, which returns int", f"silent.py:8:11: {OPERATOR}"]
         last = "1 file: 2 errors, 0 dynamic places, the promise suspended in 1 file"
         self.assertEqual(self.lines("silent.py"), [*lines, last])
 

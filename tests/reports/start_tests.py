@@ -6,11 +6,11 @@ import subprocess
 import sys
 from typing import Optional
 
-from support import ERROR, PACKAGE, Done, Test, variables
+from support import ERROR, OPERATOR, PACKAGE, Done, Test, variables
 
 # The code of a module that must not be run
 RUN = 'open("ran", "w").close()\n'
-FOUND = "a.py:4:11: E13 operator\n1 file: 1 error, 0 dynamic places\n"
+FOUND = f"a.py:4:11: {OPERATOR}\n1 file: 1 error, 0 dynamic places\n"
 # Modules that the command imports, and that Python itself has not imported by then
 LATER = ("argparse", "json", "concurrent", "textwrap", "unicodedata", "bisect", "sysconfig", "html")
 

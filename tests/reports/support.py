@@ -23,6 +23,9 @@ CLEAN = HEADER + 'def main():\n    print("hello")\n\nmain()\n'
 ERROR = HEADER + 'def main():\n    print(1 + "a")\n\nmain()\n'
 # A dynamic place at line 4, column 12
 DYNAMIC = HEADER + "def f(x):\n    return x + 1\n\ndef main():\n    print(f(1))\n\nmain()\n"
+# What is said of these two
+OPERATOR = "E13 operator: int + str is not defined"
+ANY_OPERATOR = "A2 any-operator: cannot tell whether Any + int is defined"
 # A refusal N2 at line 5, column 11
 REFUSED = HEADER + "def main():\n    total = 0\n    total += 1\n    print(total)\n\nmain()\n"
 
@@ -65,9 +68,10 @@ class Test(unittest.TestCase):
         return path
 
     def program(self, lines: str) -> str:
-        """Writes a script of the shell that replaces the program, and returns its path. `$3` is the file; `real` runs
+        """Writes a script of the shell that replaces the program, and returns its path. `$file` is the file; `real` runs
         the program itself."""
-        path = self.write("stand-in", f'#!/bin/sh\nreal() {{ exec "{os.environ["PYCHECK"]}" "$@"; }}\n{lines}\n')
+        before = f'for file; do :; done\nreal() {{ exec "{os.environ["PYCHECK"]}" "$@"; }}'
+        path = self.write("stand-in", f"#!/bin/sh\n{before}\n{lines}\n")
         path.chmod(0o755)
         return str(path)
 

@@ -7,7 +7,7 @@ import subprocess
 import sys
 from typing import IO, List
 
-from support import CLEAN, COMMAND, ERROR, Test, variables
+from support import CLEAN, COMMAND, ERROR, OPERATOR, Test, variables
 
 SECONDS = 60
 
@@ -58,7 +58,7 @@ class Watching(Test):
         process = self.start()
         self.assertEqual(self.said(process), ["1 file: 0 errors, 0 dynamic places"])
         self.write("a.py", ERROR)
-        found = "a.py:4:11: E13 operator"
+        found = f"a.py:4:11: {OPERATOR}"
         self.assertEqual(self.said(process), [found, "1 file: 1 error, 0 dynamic places"])
         self.write("src/b.py", CLEAN)
         self.assertEqual(self.said(process)[-1], "2 files: 1 error, 0 dynamic places")
@@ -69,7 +69,7 @@ class Watching(Test):
         (self.folder / "src" / "b.py").unlink()
         self.assertEqual(self.said(process), ["error: no module to check in src"])
         self.write("src/b.py", ERROR)
-        self.assertEqual(self.said(process)[0], "src/b.py:4:11: E13 operator")
+        self.assertEqual(self.said(process)[0], f"src/b.py:4:11: {OPERATOR}")
         self.assertEqual(self.end(process), 128 + signal.SIGINT)
 
     def test_a_baseline_that_changes(self) -> None:

@@ -230,9 +230,9 @@ exit 1
         self.write("wrong_bodies/pc_a/three.edit", "law: laws::upheld\n" + self.OF_CRATE)
         self.write("wrong_bodies/LAWS.md", "| `pc_a::laws::two` | `crates/pc_a/must-fail/one.edit` |\n")
         self.passes("check edits", own=True)
-        # One that changes a definition shares no round with another edit
+        # A law that names no definition seems to stand on none, so its edit shares no round; those of functions come first
         rounds = list(tool("wrong_bodies", self.room / "tools").rounds_of("pc_a"))
-        self.assertEqual([[edit.name for edit in it] for it in rounds], [["three.edit"], ["two.edit"]])
+        self.assertEqual([[edit.name for edit in it] for it in rounds], [["two.edit"], ["three.edit"]])
         self.assertEqual(self.ran("wrong_bodies", "--built", own=True, env=env), (0, self.came(2, 2)))
         # A law that is proved all the same refuses nothing
         self.write("wrong_bodies/pc_a/three.edit", "law: laws::two\n" + self.OF_CRATE)

@@ -1,49 +1,100 @@
-"""The sentence for one case of an error, for words at its place that tell more than its code does.
+"""The advice for the case of a finding, where the word at its place or the sentence of its detail tells more than its
+code does.
 
-The rows are data, made from a table of docs/CODES.md. For an attribute the word is its name, with which its place ends;
-for all else it is the word with which the place begins. If the attribute is one of `a.b`, and the text before tests
-`a.b` for None, the word is `is None`, since the test says nothing about it. The word `unknown name` in an annotation
-means a name of no type and no class."""
+The rows are data, made from a table of docs/CODES.md. The first row of the code whose words and whose sentence fit is
+taken; a row without words fits all words, one without a sentence all details. For an attribute the word is its name,
+with which its place ends; for all else it is the word with which the place begins. Words of two parts name what stands
+around the place, as `situations` finds it. In a sentence words in capitals stand for any text, the same one wherever
+they come again, and are put into the advice; None is the last member of a union there."""
 from __future__ import annotations
 
 import functools
 import json
 import re
 from pathlib import Path
-from typing import Dict, List, NamedTuple, Tuple
+from typing import Dict, List, NamedTuple, Optional, Tuple
 
+from . import situations
+from .findings import Checked, Finding
 from .source import Place, Text
 
 TEXTS = Path(__file__).with_name("cases.json")
 ATTRIBUTE = "E15"
-ANNOTATION = "E09"
-OF_TESTED, OF_UNKNOWN = "is None", "unknown name"
-# The names of types for which the entry of the code says what to write
-TYPES = frozenset("int bool str None object list dict tuple List Dict Tuple Optional Union".split())
-# How many bytes before an attribute are searched for a test of its value
-NEAR = 1 << 12
 # How many bytes of a place are read: no word of a row is longer
 LONGEST = 64
+# How many characters a sentence has that is compared with the forms
+LONGEST_SENTENCE = 1 << 12
 FIRST = re.compile(rb"[\w\x80-\xff]+")
 LAST = re.compile(rb"\.\s*([\w\x80-\xff]+)\Z")
+CAPITALS = re.compile(r"(?<![A-Za-z])([A-Z]{2,})(?![A-Za-z])")
+# What some of them stand for: a name, one that is no type of the profile, an operator
+CLASS = r"(?!(?:int|str|bool|None|object|Any)\b)[^\W\d]\w*"
+OPERATOR = r"\+|-|\*|//|%|[<>]=?|==|!="
+SPECIAL = {"NAME": r"\w+", "CLASS": CLASS, "OPERATOR": OPERATOR}
+# A member of a union, and None before further ones
+MEMBER = re.compile(r"[\w.]+")
+NONE_FIRST = "None | "
 
 
 class Case(NamedTuple):
-    """A row of the page: a code, the words at whose places it means something else, and the sentence for that case."""
+    """A row of the page: a code, the words at whose places it means something else, the form of the sentence, and the
+    advice for that case."""
 
     code: str
     words: List[str]
+    detail: str
     write: str
 
 
 @functools.lru_cache(maxsize=None)
-def cases() -> Dict[Tuple[str, str], str]:
-    """Returns the sentences by code and word; empty if the texts are missing."""
+def cases() -> Dict[str, List[Case]]:
+    """Returns the rows of each code, in their order; empty if the texts are missing."""
     try:
         rows = [Case(**it) for it in json.loads(TEXTS.read_text(encoding="utf-8"))]
     except OSError:
         return {}
-    return {(row.code, word): row.write for row in rows for word in row.words}
+    return {code: [row for row in rows if row.code == code] for code in {row.code for row in rows}}
+
+
+@functools.lru_cache(maxsize=None)
+def pattern_of(form: str) -> "re.Pattern[str]":
+    """Returns the pattern of a form of sentences."""
+    made, named = [], set()
+    for at, part in enumerate(CAPITALS.split(form)):
+        if at % 2 == 0:
+            made.append(re.escape(part))
+        elif part in named:
+            made.append(f"(?P={part})")
+        else:
+            named.add(part)
+            made.append(f"(?P<{part}>{SPECIAL.get(part, '.+?')})")
+    return re.compile("".join(made))
+
+
+def end_of_member(text: str, at: int) -> int:
+    """Returns the end of the member of a union that begins there."""
+    found = MEMBER.match(text, at)
+    if found is None:
+        return at
+    end, depth = found.end(), 0
+    for here in range(end, len(text)):
+        depth += {"[": 1, "]": -1}.get(text[here], 0)
+        if depth == 0:
+            return here + 1 if text[here] == "]" else here
+    return len(text)
+
+
+def none_last(text: str) -> str:
+    """Returns a sentence with None as the last member of each union."""
+    at = text.find(NONE_FIRST)
+    while at >= 0:
+        start = at + len(NONE_FIRST)
+        end = end_of_member(text, start)
+        while text.startswith(" | ", end):
+            end = end_of_member(text, end + 3)
+        text = f"{text[:at]}{text[start:end]} | None{text[end:]}"
+        at = text.find(NONE_FIRST, end)
+    return text
 
 
 def word_at(code: str, text: Text, place: Place) -> str:
@@ -51,27 +102,34 @@ def word_at(code: str, text: Text, place: Place) -> str:
     start, end = place.start.byte, place.end.byte
     if code == ATTRIBUTE:
         found = LAST.search(text.data[max(start, end - LONGEST) : end])
-        if found is None:
-            return ""
-        value = text.data[start : end - len(found[0])]
-        if is_tested(text.data[max(0, start - NEAR) : start], value):
-            return OF_TESTED
-        return found[1].decode("utf-8", "replace")
+        return found[1].decode("utf-8", "replace") if found else ""
     found = FIRST.match(text.data[start : min(end, start + LONGEST)])
     return found[0].decode("utf-8", "replace") if found else ""
 
 
-def is_tested(before: bytes, value: bytes) -> bool:
-    """Whether a value is an attribute that the text before it tests for None."""
-    if b"." not in value or len(value) > LONGEST:
-        return False
-    return bool(re.search(rb"(?<![\w.])" + re.escape(value) + rb"\s+is\s+(?:not\s+)?None\b", before))
+def row_of(file: Checked, finding: Finding) -> Optional[Tuple[Case, Dict[str, str]]]:
+    """Returns the first row that fits an error, and what its words in capitals stand for; None if no row fits."""
+    text = finding.detail.text if finding.detail else ""
+    said = none_last(text) if len(text) <= LONGEST_SENTENCE else ""
+    word = word_at(finding.code, file.text, finding.place)
+    for row in cases().get(finding.code, []):
+        found = pattern_of(row.detail).fullmatch(said) if row.detail else None
+        if row.detail and found is None:
+            continue
+        named = {"NAME": word, **(found.groupdict() if found else {})}
+        if not row.words or word in row.words:
+            return row, named
+        around = row.words[0] if " " in row.words[0] else ""
+        name = situations.found(around, file, finding) if around else None
+        if name is not None:
+            return row, {**named, **({"NAME": name} if name else {})}
+    return None
 
 
-def sentence(code: str, text: Text, place: Place) -> str:
-    """Returns the sentence for the case of an error; empty if its code says everything."""
-    word = word_at(code, text, place)
-    said = cases().get((code, word), "")
-    if not said and code == ANNOTATION and word.isidentifier() and word not in TYPES and word not in text.classes:
-        said = cases().get((code, OF_UNKNOWN), "")
-    return said.replace("`NAME`", f"`{word}`")
+def sentence(file: Checked, finding: Finding) -> str:
+    """Returns the advice for the case of an error; empty if its code says everything."""
+    row = row_of(file, finding)
+    if row is None:
+        return ""
+    case, named = row
+    return CAPITALS.sub(lambda found: named.get(found[1], found[1]), case.write)

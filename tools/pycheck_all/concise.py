@@ -3,7 +3,7 @@ from __future__ import annotations
 
 from typing import Iterator
 
-from . import codes, messages
+from . import codes, details, messages
 from .findings import GUIDE, REFUSED, Checked, Finding, Project
 from .texts import plain
 
@@ -15,7 +15,9 @@ def line_of(file: Checked, finding: Finding, mending: bool) -> str:
         title = finding.kind + (f": {title}" if title else "")
         if mending:
             title += ". " + messages.advice_of(file, finding)
-    if finding.flow:
+    if finding.detail:
+        title = f"{title}: {finding.detail.text}{details.seen(finding)}"
+    elif finding.flow:
         title = f"{title} {finding.flow[0]} -> {finding.flow[1]}"
     return f"{plain(file.path)}:{start.line}:{start.column}: {finding.code} {title}".rstrip()
 

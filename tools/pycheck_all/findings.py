@@ -1,16 +1,26 @@
 """The findings of the program in the files, and their counts."""
 from __future__ import annotations
 
+import bisect
 import collections
 import dataclasses
 import functools
-from typing import Counter, List, NamedTuple, Optional, Tuple
+from typing import Counter, Dict, List, NamedTuple, Optional, Tuple
 
 from . import silent
-from .source import Place, Text
+from .source import Place, Point, Text
 from .spots import Spot
 
 ERROR, DYNAMIC, REFUSED, GUIDE = "error", "dynamic", "refused", "guide"
+# How many findings before one, and as many behind it, are near it
+NEAR = 8
+
+
+class Detail(NamedTuple):
+    """What is wrong at a finding: a sentence, and the points where the other places that it is about begin."""
+
+    text: str
+    others: Tuple[Point, ...] = ()
 
 
 @dataclasses.dataclass(frozen=True)
@@ -20,7 +30,7 @@ class Finding:
     A guide is a refusal that the program reports after earlier refused text was replaced; `headless` says that it is
     due to the missing first header. `flow` has the two types of a dynamic flow: that of the value, and that of its
     destination. `opened` is the open bracket, if one is not closed or is closed by a bracket of another kind. `known`
-    says that the baseline lists the finding."""
+    says that the baseline lists the finding. `detail` says what is wrong, if the program does."""
 
     kind: str
     code: str
@@ -29,6 +39,7 @@ class Finding:
     known: bool = False
     headless: bool = False
     opened: Optional[Place] = None
+    detail: Optional[Detail] = None
 
     def fails(self, strict: bool) -> int:
         """Returns the exit status that the finding asks for."""
@@ -82,6 +93,23 @@ class Checked:
     def line_of(self, finding: Finding) -> str:
         """Returns the text of the line in which a finding starts, without blanks at its ends."""
         return self.text.line(finding.place.start.line).strip()
+
+    @functools.cached_property
+    def causes(self) -> Dict[Finding, Finding]:
+        """The error from which each dynamic place follows that follows from one."""
+        from . import following  # which needs this module
+
+        return following.causes_in(self)
+
+    @functools.cached_property
+    def starts(self) -> List[int]:
+        """The first byte of each finding that is shown."""
+        return [it.place.start.byte for it in self.findings]
+
+    def near(self, finding: Finding) -> List[Finding]:
+        """Returns the findings that are shown around one, a few before it and behind it."""
+        at = bisect.bisect_left(self.starts, finding.place.start.byte)
+        return self.findings[max(0, at - NEAR) : at + NEAR]
 
     def spot_of(self, finding: Finding) -> Optional[Spot]:
         """Returns the word or sign at which a refusal is; None for other findings."""

@@ -38,6 +38,11 @@ def followed(file: Checked) -> Dict[int, List[int]]:
     return found
 
 
+def causes_in(file: Checked) -> Dict[Finding, Finding]:
+    """Returns the error from which each dynamic place follows that follows from one."""
+    return {file.findings[it]: file.findings[at] for at, numbers in followed(file).items() for it in numbers}
+
+
 def is_cause(finding: Finding) -> bool:
     """Whether an expression with this finding counts as `Any`."""
     return finding.kind == ERROR and not finding.known and finding.code != KEEPING
@@ -50,23 +55,13 @@ def range_of(finding: Finding) -> Range:
 
 def expressions_at(text: Text, places: Set[Range]) -> Dict[Range, ast.expr]:
     """Returns the expression at each of the places that has one, the innermost if several have the same place."""
-    try:
-        tree = ast.parse(text.data)
-    except (SyntaxError, ValueError, RecursionError, MemoryError):
-        return {}
     found: Dict[Range, ast.expr] = {}
-    for node in ast.walk(tree):
+    for node in ast.walk(text.tree):
         if isinstance(node, ast.expr):
-            place = place_of(text, node)
+            place = text.range_of(node)
             if place in places:
                 found[place] = node
     return found
-
-
-def place_of(text: Text, node: ast.expr) -> Range:
-    """Returns the first byte of an expression, and the byte after its last."""
-    starts, last = text.starts, node.end_lineno or node.lineno
-    return starts[node.lineno - 1] + node.col_offset, starts[last - 1] + (node.end_col_offset or 0)
 
 
 class Causes:
@@ -84,12 +79,12 @@ class Causes:
 
     def of_value(self, node: ast.expr) -> Optional[int]:
         """Returns the error of an expression: its own, or that of an operand that makes its type unknown."""
-        while self.errors.get(place_of(self.text, node)) is None:
+        while self.errors.get(self.text.range_of(node)) is None:
             below = list(operands(node))
             if len(below) != 1:
                 return self.first(below)
             node = below[0]
-        return self.errors[place_of(self.text, node)]
+        return self.errors[self.text.range_of(node)]
 
     def first(self, nodes: "List[ast.expr] | Iterator[ast.expr]") -> Optional[int]:
         """Returns the error of the first of some expressions that has one."""

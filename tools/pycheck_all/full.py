@@ -4,7 +4,7 @@ from __future__ import annotations
 import textwrap
 from typing import Iterator, List, Tuple
 
-from . import codes, concise, following, widths
+from . import codes, concise, details, following, widths
 from .colours import Colours
 from .findings import Checked, Finding, Project, has_guides
 from .messages import GUIDES, advice_of
@@ -12,6 +12,8 @@ from .source import Place
 from .texts import plain
 
 FIRST_LINES, LAST_LINES = 4, 2
+# How many of the other places of a finding are shown
+MOST_OTHERS = 3
 NARROWEST = 40
 
 
@@ -50,17 +52,24 @@ class Full:
     def finding(self, file: Checked, finding: Finding, follows: str) -> Iterator[str]:
         """Yields the lines of one finding; `follows` is a sentence that says which others follow from it."""
         start = finding.place.start
-        title, meaning = codes.title_of(finding.code), codes.meaning_of(finding.code)
+        title = codes.title_of(finding.code)
+        meaning = finding.detail.text if finding.detail else codes.meaning_of(finding.code)
         where = self.colours("path", f"{plain(file.path)}:{start.line}:{start.column}:")
         what = self.colours(finding.kind, f"{finding.kind} {finding.code} {title}".rstrip())
-        yield f"{where} {what}" + (f": {meaning}" if meaning else "")
+        yield f"{where} {what}" + (f": {plain(meaning)}" if meaning else "")
+        others = finding.detail.others[:MOST_OTHERS] if finding.detail else ()
+        gutter = max(len(str(it)) for it in (finding.place.end.line, *(other.line for other in others)))
         if finding.opened:
             yield from self.excerpt(file, finding.opened, finding.kind, " open")
         if not finding.opened or start.byte < len(file.text.data):
-            beside = plain(f" {finding.flow[0]} -> {finding.flow[1]}") if finding.flow else ""
-            yield from self.excerpt(file, finding.place, finding.kind, beside)
+            flow = finding.flow if not finding.detail else None
+            beside = plain(f" {flow[0]} -> {flow[1]}") if flow else ""
+            yield from self.excerpt(file, finding.place, finding.kind, beside, gutter)
+        for other in others:
+            beside = f" {details.name_of_others(finding)}"
+            yield from self.excerpt(file, file.text.token(other.byte), "mend", beside, gutter)
         for said in (advice_of(file, finding), follows):
-            yield from self.said(said, len(str(finding.place.end.line)))
+            yield from self.said(said, gutter)
 
     def said(self, sentence: str, gutter: int) -> Iterator[str]:
         """Yields the lines of a sentence below an excerpt whose numbers take `gutter` columns."""
@@ -71,11 +80,11 @@ class Full:
             sign = " " if at else self.colours("number", "=")
             yield f"{before}{sign} {self.colours('mend', line)}"
 
-    def excerpt(self, file: Checked, place: Place, kind: str, beside: str) -> Iterator[str]:
-        """Yields the lines of a place, each with its number, and with its part underlined; the text `beside` follows
-        the last one."""
+    def excerpt(self, file: Checked, place: Place, kind: str, beside: str, gutter: int = 0) -> Iterator[str]:
+        """Yields the lines of a place, each with its number, which takes `gutter` columns or more, and with its part
+        underlined; the text `beside` follows the last one."""
         numbers = self.numbers(place)
-        gutter = len(str(place.end.line))
+        gutter = max(gutter, len(str(place.end.line)))
         for at, number in enumerate(numbers):
             if at and numbers[at - 1] != number - 1:
                 yield self.colours("number", f"  {'.' * gutter} |")

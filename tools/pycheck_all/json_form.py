@@ -5,7 +5,7 @@ from typing import Any, Dict
 
 from . import codes
 from .findings import DYNAMIC, ERROR, GUIDE, REFUSED, Checked, Finding, Known, Project
-from .messages import advice_of
+from .messages import advice_of, name_meant
 from .source import Point
 from .texts import json_of, plain
 
@@ -25,6 +25,11 @@ def of_finding(file: Checked, it: Finding) -> Dict[str, Any]:
     found.update(start=point(it.place.start), end=point(it.place.end), known=it.known)
     if it.flow:
         found.update({"from": it.flow[0], "to": it.flow[1]})
+    if it.detail:
+        found["detail"] = {"text": it.detail.text, "places": [point(other) for other in it.detail.others]}
+    meant = name_meant(file, it)
+    if meant:
+        found["meant"] = meant
     found["instead"] = advice_of(file, it)
     if it.opened:
         found["opened"] = point(it.opened.start)

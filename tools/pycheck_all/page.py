@@ -8,9 +8,9 @@ import html
 import re
 from typing import Iterator, List, NamedTuple, Sequence, Set, Tuple
 
-from . import codes, following, full
+from . import following, full
 from .findings import DYNAMIC, ERROR, GUIDE, REFUSED, Checked, Finding, Project, has_guides, summary
-from .messages import GUIDES, advice_of, name_of
+from .messages import GUIDES, advice_of, name_of, said_of
 from .texts import plain
 from .widths import REPLACEMENT, UNFIT
 
@@ -86,9 +86,8 @@ def worded(text: str) -> str:
 
 def tooltip(finding: Finding) -> str:
     """Returns the HTML that is shown when a pointer rests on the place of a finding."""
-    flow = f"\n{escaped(f'{finding.flow[0]} flows into {finding.flow[1]}')}" if finding.flow else ""
-    said = escaped(f"{name_of(finding)}: {codes.meaning_of(finding.code)}")
-    return f"{said}{flow}{' (known)' if finding.known else ''}"
+    said = escaped(f"{name_of(finding)}: {said_of(finding)}")
+    return f"{said}{' (known)' if finding.known else ''}"
 
 
 def parts_of(findings: Sequence[Finding], touching: Sequence[int], number: int, line: str) -> List[Part]:
@@ -164,13 +163,19 @@ class Module:
         it = self.file.findings[at]
         start = it.place.start
         link = f'<a href="#{self.name}-l{start.line}">{start.line}:{start.column}</a>'
-        flow = f" <code>{escaped(it.flow[0])} -&gt; {escaped(it.flow[1])}</code>" if it.flow else ""
         known = ' <span class="soft">known</span>' if it.known else ""
-        words = f"{codes.meaning_of(it.code)}. {FOLLOWS if at in self.above else advice_of(self.file, it)}"
+        said = f"{escaped(said_of(it)) if it.detail else worded(said_of(it))}{self.others(it)}"
+        advice = FOLLOWS if at in self.above else advice_of(self.file, it)
         name = f'<b class="{it.kind}">{escaped(name_of(it))}</b>'
         under = "".join(map(self.item, self.under.get(at, [])))
         inner = f"<ul>{under}</ul>" if under else ""
-        return f'<li id="{self.name}-n{at}">{link} {name}{flow}{known}: {worded(words)}{inner}</li>'
+        return f'<li id="{self.name}-n{at}">{link} {name}{known}: {said}. {worded(advice)}{inner}</li>'
+
+    def others(self, finding: Finding) -> str:
+        """Returns the other places of a finding, each with a link to its line; empty if it has none."""
+        points = finding.detail.others if finding.detail else ()
+        links = [f'<a href="#{self.name}-l{it.line}">{it.line}:{it.column}</a>' for it in points]
+        return f", see {', '.join(links)}" if links else ""
 
     def section(self) -> Iterator[str]:
         """Yields the module with its findings; one without findings is folded."""

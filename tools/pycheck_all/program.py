@@ -2,6 +2,7 @@
 from __future__ import annotations
 
 import os
+import resource
 import select
 import shutil
 import signal
@@ -18,6 +19,9 @@ FINDER = Path(__file__).resolve().parent.parent / "ship"
 # The exit status of the finder if it finds no program
 NO_PROGRAM = 1
 VERSION_SECONDS = 60
+# The most bytes of memory that the program may take for a file, where the system can bound it
+MOST_MEMORY = 1 << 30
+OUT_OF_MEMORY = "out of memory"
 
 
 class NoProgram(Exception):
@@ -38,6 +42,11 @@ class Answer(NamedTuple):
     status: int
     output: bytes
     error: bytes
+
+    @property
+    def lacks_memory(self) -> bool:
+        """Whether the program lacked memory."""
+        return self.status == 3 and self.error.decode("utf-8", "replace").strip() == OUT_OF_MEMORY
 
     @property
     def reason(self) -> str:
@@ -167,6 +176,7 @@ class Program:
                 raise OSError(0, "stopped")
             process = os.posix_spawn(self.path, [self.path, *words], self._variables, file_actions=actions)
             self._running.add(process)
+        bound_memory(process)
         return process
 
     def _await_end(self, process: int, until: float) -> None:
@@ -201,6 +211,15 @@ class Program:
             return ""
         said = answer.output.decode("utf-8", "replace").strip().splitlines()
         return said[0] if answer.status == 0 and said else ""
+
+
+def bound_memory(process: int) -> None:
+    """Has a program that has begun answer that it lacks memory rather than take more than MOST_MEMORY."""
+    try:
+        resource.prlimit(process, resource.RLIMIT_AS, (MOST_MEMORY, MOST_MEMORY))
+    except (AttributeError, OSError, ValueError):
+        # This system has no such call, a lower bound holds already, or the program has ended
+        pass
 
 
 def read_all(files: Sequence[int], until: float) -> List[bytes]:

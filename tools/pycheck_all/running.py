@@ -2,6 +2,7 @@
 from __future__ import annotations
 
 import concurrent.futures
+import dataclasses
 import functools
 import json
 import os
@@ -10,7 +11,7 @@ import sys
 import time
 from typing import Any, Callable, Dict, List, Optional, Sequence, Tuple
 
-from . import files, refusals
+from . import details, files, refusals
 from .findings import DYNAMIC, ERROR, REFUSED, Checked, Finding
 from .program import Program, TooLong
 from .source import Text
@@ -49,7 +50,7 @@ def finding_of(row: Dict[str, Any], text: Text) -> Finding:
         raise NotUnderstood(CHANGED)
     flow = (str(row["from"]), str(row["to"])) if "from" in row else None
     "".join(flow or ()).encode()
-    return Finding(ERROR if code[0] == "E" else DYNAMIC, code, place, flow)
+    return Finding(ERROR if code[0] == "E" else DYNAMIC, code, place, flow, detail=details.detail_of(row))
 
 
 class Run:
@@ -89,7 +90,10 @@ class Run:
             return checked.text
 
         until = time.monotonic() + self.seconds
-        answer = self.program.ask(until, "--json", "--", path)
+        answer = self.program.ask(until, "--details", "--json", "--", path)
+        if answer.lacks_memory:
+            # A report without details takes less
+            answer = self.program.ask(until, "--json", "--", path)
         refusal = REFUSAL.fullmatch(answer.error)
         if answer.status == 2 and refusal and not answer.output:
             checked.findings = [refusal_of(refusal[1].decode(), int(refusal[2]), text())]
@@ -103,10 +107,26 @@ class Run:
             checked.findings = read_findings(answer.output, text)
             if answer.status != int(any(it.kind == ERROR for it in checked.findings)):
                 raise NotUnderstood("the report of pycheck does not agree with its status")
+            if details.has_others(checked.findings):
+                checked.findings = self.with_others(checked.findings, until, path, text())
         else:
             checked.failure = self.why(answer.reason, answer.status, path)
         if self.texts and not checked.failure:
             text()
+
+    def with_others(self, found: List[Finding], until: float, path: str, text: Text) -> List[Finding]:
+        """Returns findings with the other places that their details are about, which only the report as text has."""
+        answer = self.program.ask(until, "--details", "--", path)
+        if answer.lacks_memory:
+            return found
+        try:
+            others = details.others_in(found, answer.output, text)
+        except (ValueError, IndexError):
+            raise NotUnderstood(CHANGED) from None
+        return [
+            dataclasses.replace(it, detail=it.detail._replace(others=places)) if it.detail and places else it
+            for it, places in zip(found, others)
+        ]
 
     def why(self, reason: str, status: int, path: str) -> str:
         """Returns why there is no report: if the file cannot be read, the reason of the system."""

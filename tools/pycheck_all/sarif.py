@@ -5,7 +5,7 @@ import os
 import urllib.parse
 from typing import Any, Dict, List
 
-from . import codes
+from . import codes, details
 from .findings import DYNAMIC, GUIDE, Checked, Finding, Project, has_guides
 from .messages import GUIDES, fingerprints, message_of, name_of
 from .source import Place
@@ -57,6 +57,14 @@ def location_of(file: Checked, place: Place) -> Dict[str, Any]:
     return {"physicalLocation": {"artifactLocation": {"uri": uri_of(file.path)}, "region": region}}
 
 
+def related_to(file: Checked, it: Finding) -> List[Dict[str, Any]]:
+    """Returns the other places that a finding is about, each with a message."""
+    bracket = [(it.opened, "the open bracket")] if it.opened else []
+    others = it.detail.others if it.detail else ()
+    named = [(file.text.token(other.byte), details.name_of_others(it)) for other in others]
+    return [{**location_of(file, place), "message": {"text": said}} for place, said in [*bracket, *named]]
+
+
 def results_of(file: Checked, rules: List[str], project: Project) -> List[Dict[str, Any]]:
     """Returns the results of a file. A known finding is suppressed, and stays in the log."""
     results = []
@@ -69,8 +77,9 @@ def results_of(file: Checked, rules: List[str], project: Project) -> List[Dict[s
             "locations": [location_of(file, it.place)],
             "partialFingerprints": {"pathCodeLine/v1": mark},
         }
-        if it.opened:
-            result["relatedLocations"] = [{**location_of(file, it.opened), "message": {"text": "the open bracket"}}]
+        related = related_to(file, it)
+        if related:
+            result["relatedLocations"] = related
         if it.known:
             result["suppressions"] = [{"kind": "external", "justification": "known in the baseline"}]
         results.append(result)

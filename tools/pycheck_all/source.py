@@ -1,7 +1,9 @@
 """The text of a file as bytes, lines and characters, counted as the program counts them."""
 from __future__ import annotations
 
+import ast
 import bisect
+import functools
 import re
 from typing import FrozenSet, List, NamedTuple, Optional, Tuple
 
@@ -70,6 +72,41 @@ class Text:
         """Returns the point of a byte, from 0 to the length."""
         line = bisect.bisect_right(self.starts, byte)
         return Point(byte, line, 1 + characters(self.data[self.starts[line - 1] : byte]))
+
+    def at(self, line: int, column: int) -> Point:
+        """Returns the point of a line and a column; raises IndexError if the text has none."""
+        if not 1 <= line <= len(self.starts):
+            raise IndexError(line)
+        before = self.data[self.starts[line - 1] : self.after(self.starts[line - 1])].decode("utf-8")[: column - 1]
+        if len(before) != column - 1:
+            raise IndexError(column)
+        return Point(self.starts[line - 1] + len(before.encode("utf-8")), line, column)
+
+    @functools.cached_property
+    def tree(self) -> ast.Module:
+        """The tree of Python's `ast`; an empty one if that cannot read the text."""
+        try:
+            return ast.parse(self.data)
+        except (SyntaxError, ValueError, RecursionError, MemoryError):
+            return ast.Module([], [])
+
+    @functools.cached_property
+    def functions(self) -> Tuple[List[int], List[ast.FunctionDef]]:
+        """The first byte of each function and method of the tree, in order, and the functions themselves."""
+        inner = [node.body if isinstance(node, ast.ClassDef) else [node] for node in self.tree.body]
+        found = [it for suite in inner for it in suite if isinstance(it, ast.FunctionDef)]
+        return [self.range_of(it)[0] for it in found], found
+
+    def function_around(self, byte: int) -> Optional[ast.FunctionDef]:
+        """Returns the function or method of the tree that has this byte; None if none has it."""
+        at = bisect.bisect_right(self.functions[0], byte) - 1
+        function = self.functions[1][at] if at >= 0 else None
+        return function if function and byte < self.range_of(function)[1] else None
+
+    def range_of(self, node: "ast.expr | ast.stmt") -> Tuple[int, int]:
+        """Returns the first byte of a part of the tree, and the byte after its last."""
+        last = node.end_lineno or node.lineno
+        return self.starts[node.lineno - 1] + node.col_offset, self.starts[last - 1] + (node.end_col_offset or 0)
 
     def place(self, start: int, end: int) -> Place:
         """Returns the part from one byte to another."""

@@ -37,9 +37,9 @@ GROUPS: Tuple[Group, ...] = (
         "state_of": 2, "step": 4,
     }),
     Group("one meaning, in the program and in its rules", {
-        "DeclaredTypes": 2, "Entries": 2, "Env": 2, "Globals": 2, "Infix": 2, "Keywords": 2, "Lead": 2, "Link": 2, "Prefix": 2, "Walk": 2,
+        "DeclaredTypes": 2, "DetailedFinding": 2, "Entries": 2, "Env": 2, "Globals": 2, "Infix": 2, "Keywords": 2, "Lead": 2, "Link": 2, "Prefix": 2, "Walk": 2,
         "body_context_in": 2, "declared_type": 2, "enter_main": 2, "eval_all": 2, "eval_call": 2, "eval_iterable": 2,
-        "eval_keywords": 2, "grouped": 2, "join_all": 2, "join_env": 2, "known_type": 2, "nowhere": 2,
+        "eval_keywords": 2, "grouped": 2, "join_all": 2, "join_env": 2, "known_type": 2, "misfit": 2, "nowhere": 2,
         "scope_findings": 2, "second_code": 2, "symbols_of": 2,
     }),
     Group("one form of the syntax, as it is spelled, and as it is read or means something", {
@@ -50,14 +50,14 @@ GROUPS: Tuple[Group, ...] = (
         "locals_of": 2, "method_of": 2,
     }),
     Group("one meaning, of findings and of what is told beside them", {
-        "Called": 2, "clashes_with": 2, "early_at": 2, "facts_under": 2, "unreached_in_branches": 2,
+        "Called": 2, "clashes_with": 2, "early_at": 2, "unreached_in_branches": 2,
     }),
     Group("one meaning, in reports and in editors", {"flow_text": 2, "said_by": 2, "shown_flow": 2, "texts_of": 4}),
     Group("one meaning, of checks, of sessions, of runs and of the library", {
         "IsBegun": 2, "IsExplainedAs": 2, "IsFaultShown": 2, "IsListed": 2, "IsOutput": 2, "IsReported": 2,
         "IsWritten": 2, "WhenRefused": 2, "most_read": 2, "status": 3, "status_of": 3,
     }),
-    Group("one definition, stated once more in a crate that could use it", {"is_range_call": 2, "is_same_code": 2}),
+    Group("one definition, stated once more in a crate that could use it", {"is_range_call": 2}),
     Group("one definition, stated in two crates of which neither stands on the other", {"anns_of_list": 2, "place_cmp": 2}),
     Group("one question, of several kinds of things", {
         "IsFault": 2, "IsLabel": 2, "IsOneMore": 2, "IsRead": 4, "IsReady": 2, "IsSpelled": 2, "Lists": 2, "Stands": 2,

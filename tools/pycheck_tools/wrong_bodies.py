@@ -24,8 +24,10 @@ stopped. A law has a proof by hand alone, so there the refusal of that proof cou
 function knows no more of another one than its contract, so each is judged as if its edit stood alone. It prints a line for each
 edit, and names those that it cannot try: edits of definitions that name no law, and of what stands outside functions. Where a
 function calls one whose edit was refused, or is of one cycle of calls with it, its own edit is tried once more without the other. An
-edit of definitions is tried without any other one: the proof of its law must be refused. The controls of a crate are tried after its
-edits in the same way, those of definitions at once.
+edit of definitions counts if the proof of its law is refused. It is tried beside others only if its law stands on none of what they
+change, and their functions and laws on nothing that it changes, as tools/pycheck_tools/grounds.py reads the files. It is tried once more
+alone if that check does not refuse its law, or refuses it for a name, or refuses a definition as it is written. The controls of a
+crate are tried after its edits in the same way, those of definitions at once.
 
 `--built` does the same over the libraries that `rt ci` built of the present files, and left in `crates/NAME/out`: so it proves no
 library again, and the gate tries the edits of `wrong_bodies/` by it. It leaves out those in a folder `wrong_bodies/CRATE/apart/`, for
@@ -54,11 +56,14 @@ import sys
 import tempfile
 import time
 from concurrent.futures import ThreadPoolExecutor
+from functools import lru_cache
 from pathlib import Path
 from types import ModuleType
 from typing import Callable, Dict, Iterator, List, NamedTuple, Optional, Set, Tuple
 
 from . import ROOT, sums
+from .grounds import Grounds, declared_at_place
+from .reach import Node
 from .rt_files import FUNCTION, Changed, function_at, function_of
 from .words import Words
 
@@ -79,12 +84,14 @@ ACCEPTED = "ACCEPTED"
 UNTOLD = "not tried: its function calls one that is not proved"
 LATE = "the time of the gate ran out"
 NO_VERDICT = "not tried: no verdict on its function"
+UNCLEAR = "not tried: what was tried beside it leaves its verdict open"
 BY_NAMES = "refused only since a proof file names what it took away: change a value, and keep the names"
 BY_TYPES = "refused only since a step of its proof has another type: that leaves no goal open"
 BY_DUTIES = "refused only for a duty that has nothing to do with its meaning: an overflow, an index or a measure"
 BY_NOTHING = "refused, and the check names no goal that is open"
 # A message of a check about a place in a file, and the words of one about a name that no longer exists
 TOLD = re.compile(r"^(?:note: )?(?:\./)?((?:src|proofs)/\S+?):(\d+):\d+: (.*)$", re.MULTILINE)
+REFUSED_AS_WRITTEN = re.compile(r"^(?:\./)?specs/\S+?:\d+:\d+: error", re.MULTILINE)
 OF_A_NAME = re.compile(r"has no field|is not in scope|has no `|was not admitted|which was rejected, was not checked")
 # The message of a check about a goal that it left open, and the words of one that concerns the meaning of a function
 OPEN = re.compile(r"it is not proved that (.*)")
@@ -127,6 +134,8 @@ class Edited:
         self.texts: Dict[str, str] = {}
         self.first: Dict[str, str] = {}
         self.functions: Set[Optional[Changed]] = set()
+        # Where old texts stand: the file, the line, which counts from one, and the file's text before the change
+        self.places: List[Tuple[str, int, str]] = []
 
     def names(self) -> Set[str]:
         """The ends of the names of the functions that change, and of the laws that are to be refused."""
@@ -139,6 +148,12 @@ class Edited:
     def of_definitions(self) -> bool:
         """Whether anything outside functions changes."""
         return None in self.functions
+
+    def changes(self) -> Set[Node]:
+        """Returns the declarations and functions that change; none if a change is in neither, such as an import of a
+        definition."""
+        found = [declared_at_place(path, line, text) for path, line, text in self.places]
+        return {node for nodes in found for node in nodes} if all(found) else set()
 
     def words(self) -> List[str]:
         """Returns the words by which a check proves the functions and laws that are to be refused, and nothing else."""
@@ -209,7 +224,10 @@ class Edited:
         if times != 1:
             raise Misfit(f"an 'old:' text is in {self.path} {times} times")
         before, behind = self.texts[self.path].split(self.old)
-        if not self.old.lstrip().startswith("use "):
+        is_import = self.old.lstrip().startswith("use ")
+        if not is_import or not self.path.startswith("src/"):
+            self.places.append((self.path, before.count("\n") + 1, self.texts[self.path]))
+        if not is_import:
             # An edit of a function's head changes that function
             upto = before + self.old if FUNCTION.match(self.old) else before
             self.functions.add(function_at(self.path, upto) if self.path.startswith("src/") else None)
@@ -276,17 +294,53 @@ def others_of(crate: str) -> List[Path]:
     return [edit for edit in edits_of(crate) if not is_of_functions(crate, edit)]
 
 
-def rounds_of(crate: str, with_apart: bool = True) -> Iterator[List[Path]]:
-    """Yields the edits of functions of a crate, in rounds that change no function and no cycle of calls twice."""
+def rounds_of(crate: str, with_apart: bool = True, chosen: Optional[Set[Path]] = None) -> Iterator[List[Path]]:
+    """Yields the edits of a crate, or the chosen ones, in rounds of edits that are tried at once. Those of functions come
+    first, since functions that are proved in one round prove those that they call once, and of either sort those that
+    may share a round with the fewest others, so that there are few rounds."""
     others = others_of(crate)
-    left = [edit for edit in edits_of(crate, with_apart) if edit not in others]
+    edits = [edit for edit in edits_of(crate, with_apart) if edit not in others and (chosen is None or edit in chosen)]
+    rivals = rivals_of(crate, edits)
+    left = sorted(edits, key=lambda edit: (bool(alone(crate, [edit]).laws), -len(rivals[edit])))
     while left:
-        chosen: List[Path] = []
+        taken: List[Path] = []
         for edit in left:
-            if are_apart(crate, [*chosen, edit]):
-                chosen.append(edit)
-        yield chosen
-        left = [edit for edit in left if edit not in chosen]
+            if not rivals[edit] & set(taken) and fit(crate, [*taken, edit]):
+                taken.append(edit)
+        yield taken
+        left = [edit for edit in left if edit not in taken]
+
+
+@lru_cache(maxsize=None)
+def grounds_of(crate: str) -> Grounds:
+    """Returns the grounds of the laws and the functions of a crate."""
+    return Grounds(folder_of(crate))
+
+
+def rivals_of(crate: str, edits: List[Path]) -> Dict[Path, Set[Path]]:
+    """Returns for each edit those with which it cannot be tried at once, since they change one unit of proof, or since
+    the refusal of one may be due to the other. Edits of functions alone may be tried beside those of functions that
+    they call: the check says where a refusal is due to these."""
+    edited = {edit: alone(crate, [edit]) for edit in edits}
+    changes = {edit: it.changes() for edit, it in edited.items()}
+    grounds = {edit: grounds_of(crate).of(it.names()) for edit, it in edited.items()}
+    # One whose law does not stand on what it changes, as far as the files say, shares no round
+    unknown = {edit for edit, it in edited.items() if not changes[edit] or it.laws and not changes[edit] & grounds[edit]}
+
+    def are_rivals(one: Path, other: Path) -> bool:
+        if not edited[one].laws and not edited[other].laws:
+            return bool(edited[one].proofs() & edited[other].proofs())
+        return bool({one, other} & unknown or changes[one] & grounds[other] or changes[other] & grounds[one])
+
+    return {one: {other for other in edits if other != one and are_rivals(one, other)} for one in edits}
+
+
+def fit(crate: str, edits: List[Path]) -> bool:
+    """Whether edits fit the files of a crate together. One alone is taken as it is."""
+    try:
+        return len(edits) == 1 or bool(alone(crate, edits).texts)
+    except Misfit:
+        return False
 
 
 def alone(crate: str, edits: List[Path], control: bool = False) -> Edited:
@@ -295,17 +349,6 @@ def alone(crate: str, edits: List[Path], control: bool = False) -> Edited:
     for edit in edits:
         edited.take_all(edit)
     return edited
-
-
-def are_apart(crate: str, edits: List[Path]) -> bool:
-    """Whether edits fit the files of a crate together, and no other one changes the unit of proof of the last one."""
-    try:
-        *others, last = edits
-        if others and any(alone(crate, it).of_definitions() for it in (others, [last])):
-            return False
-        return not alone(crate, others).proofs() & alone(crate, [last]).proofs() and bool(alone(crate, edits).texts)
-    except Misfit:
-        return not edits[:-1]
 
 
 def has_control(crate: str, edit: Path) -> bool:
@@ -415,29 +458,44 @@ def counted(told: List[Tuple[str, str]]) -> str:
     return BY_TYPES if told else BY_NOTHING
 
 
+def verdict_on_law(crate: str, edited: Edited, verdict: str, said: str, whole: Edited) -> str:
+    """Returns the verdict on an edit of definitions that was tried beside others, given that of its law. It is refused if
+    a message about what its law stands on says more than that a name is gone. Where a definition is refused as it is
+    written, so may be what does not stand on it."""
+    ground = grounds_of(crate).of(edited.laws)
+    texts = {path: whole.texts[path] if path in whole.texts else (folder_of(crate) / path).read_text(encoding="utf-8")
+             for path, _, _ in TOLD.findall(said) if (folder_of(crate) / path).is_file()}
+    told = [(path, text) for path, line, text in TOLD.findall(said)
+            if path in texts and declared_at_place(path, int(line), texts[path]) & ground]
+    is_clear = verdict == REFUSED and told and not is_of_names(told) and not REFUSED_AS_WRITTEN.search(said)
+    return REFUSED if is_clear else UNCLEAR
+
+
 def verdicts_of(crate: str, edits: List[Path], said: str) -> Dict[Path, str]:
     """Returns the verdict of a check on each of some edits."""
     told, whole, found = dict(VERDICT.findall(said)), alone(crate, edits), {}
     for edit in edits:
         edited = alone(crate, [edit])
         found[edit] = verdict_of(edited.names(), told, edits == [edit])
-        if found[edit] != REFUSED or edited.laws and not edited.controls:
-            continue
-        places = [(path, text) for path, _, text in TOLD.findall(said)] if edited.laws else told_of(whole, edited.functions, said)
-        if is_of_names(places):
-            found[edit] = BY_NAMES
-        elif edited.controls and not edited.laws:
-            found[edit] = counted(places)
+        if edited.laws and edits != [edit]:
+            found[edit] = verdict_on_law(crate, edited, found[edit], said, whole)
+        elif found[edit] == REFUSED and (edited.controls or not edited.laws):
+            places = [(path, text) for path, _, text in TOLD.findall(said)] if edited.laws else told_of(whole, edited.functions, said)
+            if is_of_names(places):
+                found[edit] = BY_NAMES
+            elif edited.controls and not edited.laws:
+                found[edit] = counted(places)
     return found
 
 
 def asked_again(verdicts: Dict[Path, str]) -> List[List[Path]]:
-    """Returns the edits, round by round, that are to be tried again. One whose function calls one that another edit of
-    the round changes is tried without those that were refused; each is tried alone if the check has no verdict on any
-    of them."""
-    if set(verdicts.values()) - {UNTOLD, NO_VERDICT}:
+    """Returns the edits, round by round, that are to be tried again. One whose verdict is open is tried alone. One whose
+    function calls one that another edit of the round changes is tried without those that were refused; each is tried
+    alone if the check has no verdict on any of them."""
+    open_ones = [[edit] for edit, verdict in verdicts.items() if verdict == UNCLEAR]
+    if set(verdicts.values()) - {UNTOLD, NO_VERDICT, UNCLEAR}:
         again = [edit for edit, verdict in verdicts.items() if verdict == UNTOLD]
-        return [again] if again else []
+        return open_ones + ([again] if again else [])
     return [[edit] for edit in verdicts] if len(verdicts) > 1 else []
 
 
@@ -633,8 +691,8 @@ def tasks_of(asked: Asked) -> Tuple[List[Task], Dict[str, str]]:
         built = Built()
         for crate in sorted(asked.crates, key=size_of, reverse=True):
             try:
-                rounds = [[edit for edit in it if asked.chosen is None or edit in asked.chosen] for it in rounds_of(crate, asked.with_all)]
-                tasks.append(Task(check_of(built.words(crate), crate), crate, [it for it in rounds if it], asked.with_all, asked.until))
+                rounds = list(rounds_of(crate, asked.with_all, asked.chosen))
+                tasks.append(Task(check_of(built.words(crate), crate), crate, rounds, asked.with_all, asked.until))
             except Unknown as fault:
                 missing[crate] = str(fault)
     except (Unknown, AttributeError, TypeError) as fault:

@@ -183,7 +183,7 @@ pub union_of_many : (bases : Bases) (ts : List Tree) → is_union bases ts ≡ t
 union_of_many bases ts e n = many_nodes (in_union_order ts) (order_members bases ts e)
     (omega (arith, n, order_length ts))
 
--- ---- what is answered
+-- ---- the answer on a union
 
 pub is_one : (bases : Bases) (ts : List Tree) (kinds : List Head) → kinds ≡ map head_of ts
     → true ≡ heads_make_union bases kinds → is_union bases ts ≡ true

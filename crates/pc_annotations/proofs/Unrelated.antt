@@ -329,7 +329,7 @@ fewer bases n (h ∷ hs) e = let f = is_first bases h hs e in
         (fewer_all (heads_apart bases h) n hs f.apart) u)
     with_or_without f u false = u
 
--- ---- what is answered
+-- ---- the answer on unrelated classes
 
 none_marked : (n c : ℕ) → get_or (replicate n false) c false ≡ false
 none_marked n c = ⊎_elim (λ l. get_or-replicate n c false false l)

@@ -2,7 +2,7 @@
 use Rattle.std.proofs.Common.{◌≡◌, List, ◌++◌, ap, ◌∙◌, sym, subst, append_assoc}
 use Rattle.std.specs.Prelude.{Result, OnOk}
 
--- what is left of a list, behind the part that was added
+-- a list with a first part and then the rest appended is the list with the whole appended
 pub stepped : {X : Type 0} (old mid xs ys zs : List X) → mid ≡ old ++ xs → zs ≡ xs ++ ys → mid ++ ys ≡ old ++ zs
 stepped old mid xs ys zs is all = ap (λ l. l ++ ys) is ∙ (append_assoc old xs ys ∙ ap (λ l. old ++ l) (sym all))
 

@@ -39,7 +39,7 @@ class_of_self (in_function f) e = None
 class_of_self (in_method c f) e = if is_self e then Some c else None
 class_of_self (of_class c) e = None
 
--- the name of an attribute, where the tree tells the class of the object
+-- the name of an attribute, if the class of the object is given by the tree
 abbrev pub as_member : Option ClassDef → Name → List Mention
 as_member None field = []
 as_member (Some c) field = mention_at (of_class c) field ∷ []
@@ -88,7 +88,7 @@ abbrev pub in_option : Scope → Option Expr → List Mention
 in_option s None = []
 in_option s (Some e) = in_expr s e
 
--- the names in an annotation, which has them of the module, and those in a list of annotations
+-- the names in an annotation, whose scope is the module, and those in a list of annotations
 abbrev mutual
   -- the names in an annotation
   pub in_ann : Ann → List Mention
@@ -149,7 +149,7 @@ abbrev pub in_params : Scope → List Param → List Mention
 in_params s [] = []
 in_params s (p ∷ ps) = (mention_at s p.name ∷ []) ++ (in_option_ann p.annotation ++ in_params s ps)
 
--- the names in a function or method behind its own, which are its own to it
+-- the names in a function or method after its own name, in the scope of the function or method
 abbrev pub in_def : Scope → FuncDef → List Mention
 in_def s f = in_params s f.params ++ (in_option_ann f.returns ++ in_stmts s f.body)
 
@@ -168,7 +168,7 @@ abbrev pub in_base : Option Name → List Mention
 in_base None = []
 in_base (Some n) = mention_at in_module n ∷ []
 
--- the names in a class behind its own
+-- the names in a class after its own name
 abbrev pub in_class : ClassDef → List Mention
 in_class c = in_base c.base ++ in_members c c.members
 
@@ -184,7 +184,7 @@ abbrev pub in_items : List Item → List Mention
 in_items [] = []
 in_items (it ∷ rest) = in_item it ++ in_items rest
 
--- the names that stand in a module, in text order; those of arguments by name and of other attributes than `self` has
--- are left out
+-- the names that stand in a module, in text order; the names of arguments by name, and of attributes of anything but
+-- `self`, are left out
 abbrev pub mentions_in : Module → List Mention
 mentions_in m = in_items m.items

@@ -148,7 +148,7 @@ members_held m c class base is based =
     methods : MethodsAhead m c over 0 [] class.members
     methods n new = ap (λ (k : ClassFacts). method_by_name k.methods n) (class_is m c class is)
 
--- ---- what is held, where a name is bound
+-- ---- members held where a name is bound
 
 none_some : {X : Type 0} (x : X) → None ≡ Some x → ⊥
 none_some x e = grind (arith, e)

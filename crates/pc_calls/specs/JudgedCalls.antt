@@ -53,7 +53,7 @@ filled_listed named before (p ∷ ps) =
     (p.has_default || (is_one_of (parameter_name p) named && not (is_one_of (parameter_name p) before)))
     && filled_listed named (parameter_name p ∷ before) ps
 
--- whether a place is there and is this one
+-- whether there is a place, and it is this one
 abbrev pub is_place : Option ℕ → ℕ → Test
 is_place None i = false
 is_place (Some j) i = nat_eq j i

@@ -31,7 +31,7 @@ use Rattle.pc_check.specs.declared.bodies.ModuleBodies.{ModuleBodies}
 use Rattle.pc_check.specs.Internal.ModuleWalk.{signature_for, IsModuleBodies}
 use Rattle.pc_module_rules.specs.Computed.Statements.{BodyContext, body_context_of}
 
--- ---- what the store gave stays given
+-- ---- signatures and bodies in a later store
 
 module _ {Store Ty : Type 0} (has : Store → Ty → Type 0) (tree : Ty → Tree) (a b : Store) (k : KeepsTypes has a b) where
   signed_kept : (s : HeldSignatures Ty) → HasSigned (has a) s → HasSigned (has b) s

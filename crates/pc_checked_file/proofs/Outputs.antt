@@ -5,6 +5,7 @@ use Rattle.std.specs.Io.KnownBytes.{Appends, Keeps}
 use Rattle.std.proofs.Math.Seq.{take-length}
 use Rattle.pc_source.specs.declared.counted.Counted.{Counted}
 use Rattle.pc_report.specs.declared.format.Format.{Format}
+use Rattle.pc_top.specs.DetailedTexts.{IsPrinted, IsPrintingBegun}
 use Rattle.pc_top.specs.Streaming.{IsReported, IsBegun, WhenWriteFails, UnlessWriteFails, report_bytes}
 use Rattle.pc_top.specs.TypesOfBytes.{IsListed, IsListingBegun, listing_bytes}
 use Rattle.pc_top.specs.declared.fault.CheckFault.{CheckFault}
@@ -12,6 +13,7 @@ use Rattle.pc_top.specs.declared.fault.CheckFault.TheVariants as check_fault
 use Rattle.pc_top.specs.declared.stream.FindingCounts.{FindingCounts}
 use Rattle.pc_checked_file.specs.declared.asked.Asked.{Asked}
 use Rattle.pc_checked_file.specs.Answers.{Chosen, IsOutput, IsReportCut, IsListingCut, IsExplainedAs}
+use Rattle.pc_checked_file.specs.Answers.{IsPrintingCut, IsPrintedOutput}
 
 -- known bytes that grew by some are still grown by these after a call that keeps them
 keeps_grown : (old mid new : Option (List ℕ)) (bytes : List ℕ) → Appends old mid bytes → Keeps mid new
@@ -21,7 +23,7 @@ keeps_grown (Some xs) None new bytes grown kept = absurd grown
 keeps_grown (Some xs) (Some ys) None bytes grown kept = absurd kept
 keeps_grown (Some xs) (Some ys) (Some zs) bytes grown kept = kept ∙ grown
 
--- what follows from each of two follows from the chosen one
+-- a choice of two conditions implies the same choice of two others, if each condition implies its own
 chosen : {P Q R S : Type 0} (choice : Bool) → (P → R) → (Q → S) → Chosen P Q choice → Chosen R S choice
 chosen true f g h = f h
 chosen false f g h = g h
@@ -107,6 +109,23 @@ module _ {W : Type 0} (contents : W → Option (List ℕ)) (told : Option (List 
   told_output asked check_fault.OutOfMemory other old new is output =
       subst (λ f. IsOutput contents told asked (Err f) old new) (sym is) output
 
+  -- the output of a report with details after a fault, by the clauses of its stream
+  pub printed_output : (json : Bool) (fault : CheckFault) (old new : Counted W)
+      → WhenWriteFails (IsPrintingBegun contents told json old new) fault → UnlessWriteFails (new ≡ old) fault
+      → IsPrintedOutput contents told json (Err fault) old new
+  printed_output json check_fault.Write old new begun same = record {
+    bytes = begun.bytes;
+    given = begun.given;
+    rows = begun.rows;
+    printed = begun.printed;
+    prints = begun.prints;
+    count = begun.written.0;
+    written = begun.written.2;
+  }
+  printed_output json check_fault.Read old new begun same = same
+  printed_output json check_fault.OutOfMemory old new begun same = same
+  printed_output json (check_fault.Refused r) old new begun same = same
+
   module _ (old mid new : Counted W) (kept : Keeps (contents mid.device) (contents new.device)) where
     grown : (bytes : List ℕ) → Appends (contents old.device) (contents mid.device) bytes
         → Appends (contents old.device) (contents new.device) bytes
@@ -179,3 +198,30 @@ module _ {W : Type 0} (contents : W → Option (List ℕ)) (told : Option (List 
     flush_failed asked counts output =
         chosen asked.types (listing_lost asked.json counts.errors counts.dynamic)
         (report_lost asked.json asked.format counts.errors counts.dynamic) output
+
+    -- a whole report with details that was flushed
+    pub printed_flushed : (json : Bool) (errors dynamic : ℕ) → new.failures ≡ mid.failures
+        → IsPrinted contents told json old mid errors dynamic → IsPrinted contents told json old new errors dynamic
+    printed_flushed json errors dynamic none h = record {
+      bytes = h.bytes;
+      given = h.given;
+      rows = h.rows;
+      printed = h.printed;
+      prints = h.prints;
+      errors_are = h.errors_are;
+      dynamic_are = h.dynamic_are;
+      written = (grown h.printed h.written.0, none ∙ h.written.1);
+    }
+
+    -- a whole report with details whose flush failed: all of its bytes are a beginning
+    pub printed_flush_failed : (json : Bool) (errors dynamic : ℕ)
+        → IsPrinted contents told json old mid errors dynamic → IsPrintingCut contents told json old new
+    printed_flush_failed json errors dynamic h = record {
+      bytes = h.bytes;
+      given = h.given;
+      rows = h.rows;
+      printed = h.printed;
+      prints = h.prints;
+      count = length h.printed;
+      written = whole h.printed h.written.0;
+    }

@@ -6,6 +6,7 @@ use Rattle.pc_report.specs.FaultLines.{refusal_line, memory_line, IsTold}
 use Rattle.pc_report.specs.declared.format.Format.{Format}
 use Rattle.pc_report.specs.declared.report.Row.{Row}
 use Rattle.pc_report.specs.declared.listing.TypeRow.{TypeRow}
+use Rattle.pc_top.specs.DetailedTexts.{IsPrinted, PrintsDetails}
 use Rattle.pc_top.specs.Headline.{Headline}
 use Rattle.pc_top.specs.Streaming.{AreBytesOf, IsReported, report_bytes}
 use Rattle.pc_top.specs.TypesOfBytes.{IsListed, ListsTypesOf, listing_bytes}
@@ -19,7 +20,7 @@ abbrev pub Chosen : (P Q : Type 0) → Bool → Type 0
 Chosen P Q true = P
 Chosen P Q false = Q
 
--- the fault is still the same, or that of an allocation which failed as a refusal was told
+-- the fault is unchanged, or that of an allocation that failed when the line of a refusal was made
 abbrev pub IsExplainedAs : (old new : CheckFault) → Type 0
 IsExplainedAs (check_fault.Refused refusal) new = (new ≡ check_fault.Refused refusal) ⊎ (new ≡ check_fault.OutOfMemory)
 IsExplainedAs old new = new ≡ old
@@ -31,7 +32,7 @@ module _ {W : Type 0} (contents : W → Option (List ℕ)) where
   IsFaultShown (Err check_fault.OutOfMemory) old new = IsTold contents memory_line old new
   IsFaultShown _ old new = new ≡ old
 
-  -- a beginning of the report of the reader's bytes is written, of this many bytes
+  -- the first bytes of the report of the reader's bytes are written, up to some number
   pub record IsReportCut (told : Option (List ℕ)) (json : Bool) (format : Format) (old new : Counted W) : Type 0 where
     pub bytes : List ℕ
     pub given : AreBytesOf told bytes
@@ -40,7 +41,7 @@ module _ {W : Type 0} (contents : W → Option (List ℕ)) where
     pub count : ℕ
     pub written : Appends (contents old.device) (contents new.device) (take count (report_bytes json format rows))
 
-  -- a beginning of the listing of types of the reader's bytes is written, of this many bytes
+  -- the first bytes of the listing of types of the reader's bytes are written, up to some number
   pub record IsListingCut (told : Option (List ℕ)) (json : Bool) (old new : Counted W) : Type 0 where
     pub bytes : List ℕ
     pub given : AreBytesOf told bytes
@@ -58,3 +59,22 @@ module _ {W : Type 0} (contents : W → Option (List ℕ)) where
   IsOutput told asked (Err check_fault.Write) old new =
       Chosen (IsListingCut told asked.json old new) (IsReportCut told asked.json asked.format old new) asked.types
   IsOutput told asked _ old new = new ≡ old
+
+  -- the first bytes of the report of the reader's bytes with its details are written, up to some number
+  pub record IsPrintingCut (told : Option (List ℕ)) (json : Bool) (old new : Counted W) : Type 0 where
+    pub bytes : List ℕ
+    pub given : AreBytesOf told bytes
+    pub rows : List Row
+    pub printed : List ℕ
+    pub prints : PrintsDetails json bytes rows printed
+    pub count : ℕ
+    pub written : Appends (contents old.device) (contents new.device) (take count printed)
+
+  -- standard output with details: the whole report with these numbers, or a beginning of it if the writer failed; it is
+  -- the same otherwise
+  abbrev pub IsPrintedOutput : (told : Option (List ℕ)) → (json : Bool) → Result FindingCounts CheckFault
+      → (old new : Counted W) → Type 0
+  IsPrintedOutput told json (Ok counts) old new =
+      IsPrinted contents told json old new counts.errors counts.dynamic
+  IsPrintedOutput told json (Err check_fault.Write) old new = IsPrintingCut told json old new
+  IsPrintedOutput told json _ old new = new ≡ old

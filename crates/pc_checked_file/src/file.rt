@@ -2,12 +2,12 @@
 
 ghost use Rattle.std.specs.Prelude.{IfErr};
 ghost use Rattle.pc_top.specs.Streaming.{IsRefusedStream, WhenRefused};
-ghost use Rattle.pc_checked_file.specs.Answers.{IsFaultShown, IsOutput};
+ghost use Rattle.pc_checked_file.specs.Answers.{IsPrintedOutput, IsFaultShown, IsOutput};
 
 use crate::asked::Asked;
 use crate::telling::explained;
 use pc_source::Counted;
-use pc_top::{CheckFault, FindingCounts, check_stream, types_stream};
+use pc_top::{CheckFault, FindingCounts, check_stream, explain_stream, types_stream};
 use std::alloc::Global;
 use std::io::{Read, Write};
 
@@ -67,6 +67,48 @@ pub fn check_file<R: Read + Drop, W: Write + Drop, E: Write + Drop>(
     ensures refused { IfErr result (WhenRefused (IsRefusedStream (R.remaining input.old.device))) }
 {
     match shown_whole(alloc, asked, input, output) {
+        Ok(counts) => Ok(counts),
+        Err(fault) => Err(explained(alloc, fault, errors)),
+    }
+}
+
+/// Reads bytes to their end, writes the report with its details, and flushes the writer.
+fn explained_whole<R: Read + Drop, W: Write + Drop>(
+    alloc: Global,
+    json: bool,
+    input: &mut Counted<R>,
+    output: &mut Counted<W>,
+) -> Result<FindingCounts, CheckFault>
+    ensures output { IsPrintedOutput W.contents (R.remaining input.old.device) json result output.old output.new }
+    ensures refused { IfErr result (WhenRefused (IsRefusedStream (R.remaining input.old.device))) }
+{
+    match explain_stream(alloc, input, output, json) {
+        Ok(counts) => match output.flush() {
+            Ok(()) => Ok(counts),
+            Err(_failure) => Err(CheckFault::Write),
+        },
+        Err(fault) => Err(fault),
+    }
+}
+
+/// Checks the bytes of a reader like `check_file`, and writes the report with the details of its findings, as JSON of
+/// format two or as text. Own rule of the profile.
+///
+/// # Errors
+///
+/// As for `check_file`.
+pub fn explain_file<R: Read + Drop, W: Write + Drop, E: Write + Drop>(
+    alloc: Global,
+    json: bool,
+    input: &mut Counted<R>,
+    output: &mut Counted<W>,
+    errors: &mut Counted<E>,
+) -> Result<FindingCounts, CheckFault>
+    ensures output { IsPrintedOutput W.contents (R.remaining input.old.device) json result output.old output.new }
+    ensures errors { IsFaultShown E.contents result errors.old errors.new }
+    ensures refused { IfErr result (WhenRefused (IsRefusedStream (R.remaining input.old.device))) }
+{
+    match explained_whole(alloc, json, input, output) {
         Ok(counts) => Ok(counts),
         Err(fault) => Err(explained(alloc, fault, errors)),
     }

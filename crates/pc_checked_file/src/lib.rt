@@ -8,6 +8,6 @@ mod status;
 mod telling;
 
 pub use asked::Asked;
-pub use file::check_file;
+pub use file::{check_file, explain_file};
 pub use pc_top::{CheckFault, FindingCounts, Format};
 pub use status::status_of;

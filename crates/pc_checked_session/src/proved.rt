@@ -56,8 +56,8 @@ fn items_of(alloc: Global, rows: &[Row]) -> Result<Vec<ReportedFinding>, AllocEr
     Ok(items)
 }
 
-/// Returns the types of a row as a text, as `--types` prints them: the type, and behind the declared type of a name its
-/// current one, if that is another.
+/// Returns the types of a row as a text, as `--types` prints them: the type, and after the declared type of a name its
+/// current type, if that is another.
 fn types_of_row(alloc: Global, row: &TypeRow) -> Result<String, AllocError>
     ensures { IfOk result (λ s. string_bytes s ≡ types_of_row row.now) }
 {

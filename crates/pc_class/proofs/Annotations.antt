@@ -13,7 +13,7 @@ use Rattle.pc_class.specs.Annotated.{methods_annotated}
 use Rattle.pc_class.specs.declared.entries.ClassMember.{ClassMember as RustEntry}
 use Rattle.pc_class.specs.Entries.{Inherited, MemberEntry, entry_seen, entries_of_members, number_after, parameter_made}
 use Rattle.pc_class.specs.Entries.{field_made, methods_made}
-use Rattle.pc_class.specs.Facts.{Method, method_made}
+use Rattle.pc_class.specs.Facts.{method_made}
 use Rattle.pc_class.specs.Outlines.{own_field, own_method}
 use Rattle.pc_class.specs.Internal.Readers.{IsLentSame}
 use Rattle.pc_class.specs.declared.reading.TypeReader.{TypeReader}
@@ -64,7 +64,7 @@ module _ (m : Module) where
   methods_next es i e less is = ap (λ (l : List RustEntry). methods_annotated m (map entry_seen l))
       (cons_at es i e less is)
 
--- ---- what an entry binds, by what its member is
+-- ---- fields and methods bound by an entry
 
 pub field_bound : (m : Module) (e : MemberEntry) (d : Field) → e.member ≡ field_member d → e.binds ≡ true
     → parameter_made m d ∷ [] ≡ own_field m e
@@ -75,7 +75,7 @@ pub method_bound : (m : Module) (c : ℕ) (e : MemberEntry) (d : FuncDef) → e.
 method_bound m c e d is b = sym (ap (λ (x : Test). if x then methods_made m c e.number e.member else []) b
     ∙ ap (methods_made m c e.number) is)
 
-nothing_either : (b : Test) (xs : List Method) → (if b then xs else xs) ≡ xs
+nothing_either : {X : Type 0} (b : Test) (xs : List X) → (if b then xs else xs) ≡ xs
 nothing_either true xs = refl
 nothing_either false xs = refl
 
@@ -85,6 +85,13 @@ no_method m c e d is = sym (ap (λ (x : Member). if e.binds then methods_made m 
 
 pub unbound_method : (m : Module) (c : ℕ) (e : MemberEntry) → e.binds ≡ false → [] ≡ own_method m c e
 unbound_method m c e b = sym (ap (λ (x : Test). if x then methods_made m c e.number e.member else []) b)
+
+pub no_field : (m : Module) (e : MemberEntry) (d : FuncDef) → e.member ≡ method_member d → [] ≡ own_field m e
+no_field m e d is = sym (ap (λ (x : Member). if e.binds then field_made m x else []) is
+    ∙ nothing_either e.binds [])
+
+pub unbound_field : (m : Module) (e : MemberEntry) → e.binds ≡ false → [] ≡ own_field m e
+unbound_field m e b = sym (ap (λ (x : Test). if x then field_made m e.member else []) b)
 
 -- ---- readers
 

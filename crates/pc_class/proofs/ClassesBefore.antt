@@ -59,7 +59,7 @@ class_numbered (class_item p c ∷ before) rest i =
     ap (slice_get (classes_in (onto before (class_item p c ∷ rest)))) (omega arith)
     ∙ class_numbered before (class_item p c ∷ rest) (suc i)
 
--- ---- what a name means
+-- ---- classes as meanings of names
 
 -- the meaning is a class
 abbrev is_class : NameMeaning → Bool

@@ -34,7 +34,7 @@ use Rattle.pc_class.proofs.HeldMembers.{Tells, nothing_tells, clashes_are, tells
 use Rattle.pc_class.proofs.ItemsBuilt.{AreAhead}
 
 module _ (m : Module) where
-  -- ---- what the items before have
+  -- ---- members held of the items before
 
   numbered_here : (before : List Item) (p : Place) (c : ClassDef) (rest : List Item)
       → onto before (class_item p c ∷ rest) ≡ m.items → slice_get (classes_in m.items) (class_count before) ≡ Some c

@@ -71,7 +71,7 @@ held_texts : (hs : List HeldMember) (w : List ℕ) → stopping.is_among (map he
 held_texts [] w = refl
 held_texts (x ∷ hs) w = ap (λ z. bytes_eq x.text w || z) (held_texts hs w)
 
--- ---- what is held
+-- ---- held members
 
 -- the held members are just the fields and methods of a class
 pub record Tells (hs : List HeldMember) (class : ClassFacts) : Type 0 where

@@ -207,7 +207,7 @@ module _ {Ty : Type 0} (fields : List (RustParameter Ty)) (s : SharedLists) (es 
               (sym (get_or-append_seam classes list [] empty_list))
               (subst (λ k. IsListOf fields t (fields_in es k) list) (sym many) here))
 
--- ---- what a list is asked for
+-- ---- look-ups in a list of fields
 
 get_past : {X : Type 0} (xs : List X) (i : ℕ) → length xs ≤ i → slice_get xs i ≡ None
 get_past [] i past = refl

@@ -47,12 +47,12 @@ abbrev pub all_own : {X : Type 0} → (own : MemberEntry → List X) → List Me
 all_own own [] = []
 all_own own (e ∷ es) = own e ++ all_own own es
 
--- none of these items has the name of one of those
+-- no item of the second list has the name of an item of the first
 abbrev pub AreOther : {X : Type 0} → (name : X → List ℕ) → (those these : List X) → Type 0
 AreOther name those [] = Unit {0}
 AreOther name those (x ∷ xs) = (first_named name those (name x) ≡ None) × AreOther name those xs
 
--- the items that each entry binds have other names than those items and than the items that earlier entries bind
+-- the items that each entry binds have names other than those of the given items and of the items of earlier entries
 abbrev pub AreNew : {X : Type 0} → (name : X → List ℕ) → (own : MemberEntry → List X) → (those : List X)
     → List MemberEntry → Type 0
 AreNew name own those [] = Unit {0}

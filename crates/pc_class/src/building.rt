@@ -141,6 +141,30 @@ fn read_classes<S: TypeStore>(
     all_classes(&mut reader, outline, found)
 }
 
+/// Returns the contents of the table of all classes of the module. Appends the findings about its classes to `found`,
+/// those in the annotations of their members last.
+fn read_parts<S: TypeStore>(
+    store: &mut S,
+    alloc: Global,
+    outline: &ModuleOutline,
+    found: &mut Findings,
+) -> Result<ClassArena<S::Ty>, OutOfMemory>
+    requires { IsModuleOutline outline.now }
+    ensures store { KeepsTypes S.has store.old store.new }
+    ensures table { IfOk result IsClassTable }
+    ensures given { IfOk result (HasParts (S.has store.new)) }
+    ensures classes { IfOk result (λ p. classes_with S.tree (classes_of_table p) ≡ classes_of (module_in outline.now)) }
+    ensures found { OnOk result
+        (found.new.items ≡ found.old.items
+        ++ (found_behind (module_in outline.now) [] 0 (classes_in (module_in outline.now).items)
+        ++ annotated_behind (module_in outline.now) [] 0 (classes_in (module_in outline.now).items))) }
+{
+    let mut in_annotations = Vec::new(alloc);
+    let parts = read_classes(store, alloc, outline, found, &mut in_annotations)?;
+    found.extend_from_slice(&in_annotations)?;
+    Ok(parts)
+}
+
 /// Returns the class table of a module. Appends the findings about its classes to `found`: E07, then E06 and E08 of
 /// each class; and after these the findings in the annotations of fields, and of methods that bind their names: E09,
 /// E10 and E26. The annotations of a method that binds no name are not read here, since the table has no such method.
@@ -168,9 +192,7 @@ pub fn class_table<S: TypeStore>(
         scopes,
         parents: &parents,
     };
-    let mut in_annotations = Vec::new(alloc);
-    let parts = read_classes(store, alloc, &outline, found, &mut in_annotations)?;
-    found.extend_from_slice(&in_annotations)?;
+    let parts = read_parts(store, alloc, &outline, found)?;
     let lists = ClassLists::new(alloc, tree.keys, &parts)?;
     Ok(ClassTable::of(parts, parents, lists))
 }

@@ -1,8 +1,9 @@
 //! Parameters of functions and members of classes, with the types of their annotations and the findings in these.
 
 ghost use Rattle.std.specs.Prelude.{◌≡◌, ◌++◌, map, All, IfOk, OnOk};
-ghost use Rattle.pc_tree.specs.Tree.{param_of, func_of, field_of};
-ghost use Rattle.pc_types.specs.Store.{KeepsTypes};
+ghost use Rattle.pc_tree.specs.Tree.{param_of, func_of, field_of, option_ann_of};
+ghost use Rattle.pc_types.specs.Store.{Means, KeepsTypes};
+ghost use Rattle.pc_annotations.specs.Annotations.{read_option};
 ghost use Rattle.pc_annotations.specs.Bases.{bases_of};
 ghost use Rattle.pc_annotations.specs.Listed.{ann_findings, option_findings};
 ghost use Rattle.pc_class.specs.Annotated.{params_annotated, def_annotated};
@@ -16,7 +17,7 @@ use crate::listed::ParameterList;
 use crate::table::{Method, Parameter};
 use pc_annotations::{ModuleOutline, read_ann, read_option};
 use pc_source::OutOfMemory;
-use pc_tree::{Field, Findings, FuncDef, Param};
+use pc_tree::{Ann, Field, Findings, FuncDef, Param};
 use pc_types::TypeStore;
 use std::alloc::Global;
 
@@ -112,6 +113,45 @@ pub(crate) fn read_field<S: TypeStore>(
     })
 }
 
+/// Returns the list of these parameters with the types of their annotations. Adds the findings in these, one after
+/// another.
+fn read_list<S: TypeStore>(
+    reader: &mut TypeReader<'_, S>,
+    outline: &ModuleOutline,
+    params: &[Param],
+) -> Result<ParameterList<S::Ty>, OutOfMemory>
+    requires { IsModuleOutline outline.now }
+    ensures given { IfOk result (λ ps. All (HasParameter (S.has reader.new.store.now)) ps) }
+    ensures means { IfOk result
+        (λ ps. parameters_with S.tree ps ≡ parameters_of (module_in outline.now) (map param_of params.now)) }
+    ensures found { OnOk result (reader.new.found.now.items ≡ reader.old.found.now.items
+        ++ params_annotated (module_in outline.now) (map param_of params.now)) }
+    ensures kept { KeepsTypes S.has reader.old.store.now reader.new.store.now }
+    ensures same { IsLentSame reader.old reader.new }
+{
+    let params = read_params(reader, outline, params)?;
+    let list = ParameterList::new(reader.alloc, outline.tree.keys, params)?;
+    Ok(list)
+}
+
+/// Returns the type of a return annotation, `Any` if there is none. Adds the findings in it.
+fn read_return<S: TypeStore>(
+    reader: &mut TypeReader<'_, S>,
+    outline: &ModuleOutline,
+    returns: &Option<Ann>,
+) -> Result<S::Ty, OutOfMemory>
+    requires { IsModuleOutline outline.now }
+    ensures typed { IfOk result (λ t. Means S.has S.tree reader.new.store.now t
+        (read_option (module_in outline.now) (bases_of (module_in outline.now)) (option_ann_of returns.now))) }
+    ensures found { OnOk result (reader.new.found.now.items ≡ reader.old.found.now.items
+        ++ option_findings (module_in outline.now) (bases_of (module_in outline.now)) (option_ann_of returns.now)) }
+    ensures kept { KeepsTypes S.has reader.old.store.now reader.new.store.now }
+    ensures same { IsLentSame reader.old reader.new }
+{
+    let ty = read_option(reader.store, reader.alloc, outline, reader.found, returns)?;
+    Ok(ty)
+}
+
 /// Returns a method of a class, with its number there and the types of its annotations. Adds the findings in these.
 pub(crate) fn read_method<S: TypeStore>(
     reader: &mut TypeReader<'_, S>,
@@ -129,15 +169,8 @@ pub(crate) fn read_method<S: TypeStore>(
     ensures kept { KeepsTypes S.has reader.old.store.now reader.new.store.now }
     ensures same { IsLentSame reader.old reader.new }
 {
-    let params = read_params(reader, outline, &def.params)?;
-    let params = ParameterList::new(reader.alloc, outline.tree.keys, params)?;
-    let ret = read_option(
-        reader.store,
-        reader.alloc,
-        outline,
-        reader.found,
-        &def.returns,
-    )?;
+    let params = read_list(reader, outline, &def.params)?;
+    let ret = read_return(reader, outline, &def.returns)?;
     let name = String::from_str(reader.alloc, def.name.text.as_str())?;
     Ok(Method {
         name,

@@ -46,45 +46,50 @@ word_read m words got is rows = is ∙ first_value-rows (found_of m) (codes "for
     ∙ ap (first_of (codes "format")) rows
 
 -- where `clap` finds no fault, the words ask for a check of what was read
-asked_is : (words : List Text) (flag listing : Text) (number : Option Text) (file : Text) → faults words ≡ []
-    → flag ≡ argument_value (codes "json") words → listing ≡ argument_value (codes "types") words → number ≡ format_word words
-    → file ≡ argument_value (codes "file") words
-    → asked words ≡ asked_of (bytes_eq flag (codes "true")) (bytes_eq listing (codes "true")) number file
-asked_is words flag listing number file none flag_is kinds_is number_is file_is =
-    rw (flag_is, kinds_is, number_is, file_is) (
+asked_is : (words : List Text) (flag listing telling : Text) (number : Option Text) (file : Text) → faults words ≡ []
+    → flag ≡ argument_value (codes "json") words → listing ≡ argument_value (codes "types") words
+    → telling ≡ argument_value (codes "details") words → number ≡ format_word words → file ≡ argument_value (codes "file") words
+    → asked words ≡ asked_of (bytes_eq flag (codes "true")) (bytes_eq listing (codes "true"))
+    (bytes_eq telling (codes "true")) number file
+asked_is words flag listing telling number file none flag_is kinds_is telling_is number_is file_is =
+    rw (flag_is, kinds_is, telling_is, number_is, file_is) (
     ap (λ kinds. without_faults kinds (asked_of (is_given (codes "json") words) (is_given (codes "types") words)
-    (format_word words) (argument_value (codes "file") words))) none
+    (is_given (codes "details") words) (format_word words) (argument_value (codes "file") words))) none
     )
 
 -- there is a format, and the file was copied
-pub gives : (words : List Text) (flag listing : Text) (number : Option Text) (file copy : Text) (json types : Bool)
-    (format : Format) → faults words ≡ [] → flag ≡ argument_value (codes "json") words
-    → listing ≡ argument_value (codes "types") words → number ≡ format_word words → file ≡ argument_value (codes "file") words
-    → json ≡ bytes_eq flag (codes "true") → types ≡ bytes_eq listing (codes "true")
-    → format_asked types number ≡ Some format → copy ≡ file
-    → asked words ≡ Some (record { json = json; types = types; format = format; file = copy })
-gives words flag listing number file copy json types format none flag_is kinds_is number_is file_is json_is types_is
-    format_is copy_is =
-    asked_is words flag listing number file none flag_is kinds_is number_is file_is
-    ∙ sym (ap₂ (λ (j t : Bool). asked_of j t number file) json_is types_is)
-    ∙ ap (λ o. in_format json types o file) format_is
-    ∙ ap (λ (f : Text). in_format json types (Some format) f) (sym copy_is)
+pub gives : (words : List Text) (flag listing telling : Text) (number : Option Text) (file copy : Text)
+    (json types details : Bool) (format : Format) → faults words ≡ [] → flag ≡ argument_value (codes "json") words
+    → listing ≡ argument_value (codes "types") words → telling ≡ argument_value (codes "details") words
+    → number ≡ format_word words → file ≡ argument_value (codes "file") words → json ≡ bytes_eq flag (codes "true")
+    → types ≡ bytes_eq listing (codes "true") → details ≡ bytes_eq telling (codes "true")
+    → format_asked types details number ≡ Some format → copy ≡ file
+    → asked words ≡ Some (record { json = json; types = types; details = details; format = format; file = copy })
+gives words flag listing telling number file copy json types details format none flag_is kinds_is telling_is number_is
+    file_is json_is types_is details_is format_is copy_is =
+    asked_is words flag listing telling number file none flag_is kinds_is telling_is number_is file_is
+    ∙ sym (ap₂ (λ (j t : Bool). asked_of j t (bytes_eq telling (codes "true")) number file) json_is types_is)
+    ∙ sym (ap (λ (d : Bool). asked_of json types d number file) details_is)
+    ∙ ap (λ o. in_format json types details o file) format_is
+    ∙ ap (λ (f : Text). in_format json types details (Some format) f) (sym copy_is)
 
 -- there is no format
-pub misses : (words : List Text) (listing : Text) (number : Option Text) (types : Bool) → faults words ≡ []
-    → listing ≡ argument_value (codes "types") words → number ≡ format_word words
-    → types ≡ bytes_eq listing (codes "true") → format_asked types number ≡ None → asked words ≡ None
-misses words listing number types none kinds_is number_is types_is format_is =
-    asked_is words _ listing number _ none refl kinds_is number_is refl
-    ∙ sym (ap (λ (t : Bool). asked_of (is_given (codes "json") words) t number (argument_value (codes "file") words)) types_is)
-    ∙ ap (λ o. in_format (is_given (codes "json") words) types o (argument_value (codes "file") words)) format_is
+pub misses : (words : List Text) (listing telling : Text) (number : Option Text) (types details : Bool) → faults words ≡ []
+    → listing ≡ argument_value (codes "types") words → telling ≡ argument_value (codes "details") words
+    → number ≡ format_word words → types ≡ bytes_eq listing (codes "true")
+    → details ≡ bytes_eq telling (codes "true") → format_asked types details number ≡ None → asked words ≡ None
+misses words listing telling number types details none kinds_is telling_is number_is types_is details_is format_is =
+    asked_is words _ listing telling number _ none refl kinds_is telling_is number_is refl
+    ∙ sym (ap₂ (λ (t d : Bool). asked_of (is_given (codes "json") words) t d number (argument_value (codes "file") words))
+    types_is details_is)
+    ∙ ap (λ o. in_format (is_given (codes "json") words) types details o (argument_value (codes "file") words)) format_is
 
--- what `clap` reads of the words
+-- the request of the words, given the values that `clap` reads, faults aside
 abbrev read : List Text → Option Asked
-read words = asked_of (is_given (codes "json") words) (is_given (codes "types") words) (format_word words)
-    (argument_value (codes "file") words)
+read words = asked_of (is_given (codes "json") words) (is_given (codes "types") words)
+    (is_given (codes "details") words) (format_word words) (argument_value (codes "file") words)
 
--- what is said of an error of `clap` holds of the words
+-- the fault reported for an error of `clap` is true of the words
 pub says : (words : List Text) (k : ErrorKind) (r : OptionFault) → (k ≡ kind.OutOfMemory) ⊎ IsAmong k (faults words)
     → OnFault (is_mistake k ≡ true) (is_request k ≡ true) r
     → OnFault (asked words ≡ None) (asked words ≡ None) r × OnFault (is_mistaken words ≡ true)

@@ -9,12 +9,12 @@ use Rattle.pc_commands.specs.RunWords.{fuel_in}
 own : IsNumeralModel (λ ds. all_ascii_digits ds ≡ true) (digits_value 10)
 own = numerals_by_value _ tells_all_ascii_digits
 
--- what `parse` made of a word, as fuel
+-- the fuel in a result of `parse`, if there is one
 abbrev pub kept : {E : Type 0} → Result ℕ E → Option ℕ
 kept (Ok fuel) = Some fuel
 kept (Err e) = None
 
--- what `parse` says of a word of digits alone
+-- `parse` succeeds on a word of digits alone exactly if it is not empty and its value fits 64 bits
 says : {E : Type 0} (bs : List ℕ) (r : Result ℕ E) → all_ascii_digits bs ≡ true → ParsesUnsigned 64 10 bs r
     → OkIff r ((0 < length bs) × (digits_value 10 bs < 2 ^ 64)) (digits_value 10 bs)
 says bs r digits parsed = parse_digits own 64 bs r parsed digits

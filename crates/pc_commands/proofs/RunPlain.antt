@@ -53,7 +53,7 @@ plain_asked : (n f : Text) → begins_with_dash n ≡ false → begins_with_dash
 plain_asked n f bn bf = asked_is _ (plain_faults n f bn bf)
     ∙ ap₂ (λ o p. with_file (option_and_then fuel_in o) p) (plain_number n f bn bf) (plain_file n f bn bf)
 
--- what plain words ask for is said without `clap`
+-- the request of plain words is the one that is defined without `clap`
 pub plain_words : (words : List Text) → are_plain words ≡ true → asked words ≡ plainly_asked words
 plain_words [] e = absurd (true≢false (sym e))
 plain_words (flag ∷ []) e = absurd (true≢false (sym e))

@@ -35,7 +35,7 @@ asked_is words none =
     ap (λ kinds. without_faults kinds (with_file (option_and_then fuel_in (argument_value (codes "fuel") words))
     (argument_value (codes "file") words))) none
 
--- what is asked, by what the getters gave
+-- the request of the words is that of the fuel and the file that the getters gave
 pub reads : (words : List Text) (m : ArgMatches) (fuel : Option ℕ) (file : Option Text) → faults words ≡ []
     → rows_of (found_of m) ≡ matches_of command_line words
     → fuel ≡ option_and_then fuel_in (first_value (found_of m) (codes "fuel"))
@@ -52,18 +52,18 @@ pub gives : (words : List Text) (fuel : Option ℕ) (file : Option Text) (n : �
 gives words fuel file n text copy so fuel_is file_is same = so ∙ ap₂ with_file fuel_is file_is
     ∙ ap (λ t. with_file (Some n) (Some t)) (sym same)
 
--- what is asked where one of the values that were read is missing
+-- there is no request if the fuel or the file is missing
 pub misses : (fuel : Option ℕ) (file : Option Text) → (fuel ≡ None) ⊎ (file ≡ None) → with_file fuel file ≡ None
 misses None file is = refl
 misses (Some n) None is = refl
 misses (Some n) (Some t) (inl is) = absurd (true≢false (ap is_some is))
 misses (Some n) (Some t) (inr is) = absurd (true≢false (ap is_some is))
 
--- what `clap` reads of the words
+-- the request of the words, given the values that `clap` reads, faults aside
 abbrev read : List Text → Option Asked
 read words = with_file (option_and_then fuel_in (argument_value (codes "fuel") words)) (argument_value (codes "file") words)
 
--- what is said of an error of `clap` holds of the words
+-- the fault reported for an error of `clap` is true of the words
 pub says : (words : List Text) (k : ErrorKind) (r : OptionFault) → (k ≡ kind.OutOfMemory) ⊎ IsAmong k (faults words)
     → OnFault (is_mistake k ≡ true) (is_request k ≡ true) r
     → OnFault (asked words ≡ None) (asked words ≡ None) r × OnFault (is_mistaken words ≡ true)

@@ -79,7 +79,7 @@ no_memory : (test : ErrorKind → Bool) (k : ErrorKind) → test kind.OutOfMemor
     → k ≡ kind.OutOfMemory → ⊥
 no_memory test k fails passes is = true≢false (sym passes ∙ ap test is ∙ fails)
 
--- what is said of an error of `clap` holds of the words
+-- the fault reported for an error of `clap` is true of the words
 pub error_says : {A : Type 0} (kinds : Kinds) (found : Option A) (k : ErrorKind) (r : OptionFault)
     → (k ≡ kind.OutOfMemory) ⊎ IsAmong k kinds
     → OnFault (is_mistake k ≡ true) (is_request k ≡ true) r

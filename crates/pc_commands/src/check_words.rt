@@ -4,19 +4,20 @@ ghost use Rattle.clap.specs.Words.{app_of, rule_of};
 ghost use Rattle.pc_commands.specs.Faults.{OnFault};
 ghost use Rattle.pc_commands.specs.CheckWords.{are_plain, asked, asks_for_help, command_line, file_rule, format_in};
 ghost use Rattle.pc_commands.specs.CheckWords.{format_asked, format_rule, is_mistaken, json_rule, plainly_asked};
-ghost use Rattle.pc_commands.specs.CheckWords.{types_rule};
+ghost use Rattle.pc_commands.specs.CheckWords.{details_rule, types_rule};
 
 use crate::faults::{OptionFault, fault_of};
 use clap::{Arg, ArgAction, Command};
 use pc_report::Format;
 use std::alloc::{AllocError, Global};
 
-/// Request of a command line: the file to check, whether the output is JSON, whether it is the listing of types, and the
-/// format of the report.
+/// Request of a command line: the file to check, whether the output is JSON, whether it is the listing of types or the
+/// report with details, and the format of the report.
 #[derive(Debug, PartialEq, Eq, Drop)]
 pub struct CheckOptions {
     pub json: bool,
     pub types: bool,
+    pub details: bool,
     pub format: Format,
     pub file: String,
 }
@@ -32,13 +33,15 @@ fn format_of(word: &str) -> Option<Format>
     }
 }
 
-/// Returns the format that is asked for: two without a word, else the one that it names. `--types` goes with no word.
-fn format_asked(types: bool, word: Option<&str>) -> Option<Format>
-    ensures { result ≡ format_asked types (option_map (λ w. w.now) word.entry) }
+/// Returns the format that is asked for: two without a word, else the one that it names. Of `--types`, `--details` and a
+/// word at most one is given.
+fn format_asked(types: bool, details: bool, word: Option<&str>) -> Option<Format>
+    ensures { result ≡ format_asked types details (option_map (λ w. w.now) word.entry) }
 {
     match word {
+        None if types && details => None,
         None => Some(Format::Two),
-        Some(_) if types => None,
+        Some(_) if types || details => None,
         Some(word) => format_of(word),
     }
 }
@@ -63,6 +66,17 @@ fn types_argument<'a>(alloc: Global) -> Arg<'a>
         .long("types")
         .action(ArgAction::SetTrue)
         .help("List the types of expressions and of bound names, without a report")
+}
+
+/// Returns the flag `--details`.
+fn details_argument<'a>(alloc: Global) -> Arg<'a>
+    ensures rule { rule_of result ≡ details_rule }
+    ensures local { result.global ≡ false }
+{
+    Arg::new(alloc, "details")
+        .long("details")
+        .action(ArgAction::SetTrue)
+        .help("Say in the report what is wrong at each finding")
 }
 
 /// Returns the option `--format N`.
@@ -99,6 +113,7 @@ fn command<'a>(alloc: Global) -> Result<Command<'a>, AllocError>
         .no_binary_name(true)
         .arg(json_argument(alloc))?
         .arg(types_argument(alloc))?
+        .arg(details_argument(alloc))?
         .arg(format_argument(alloc))?
         .arg(file_argument(alloc))
 }
@@ -107,13 +122,25 @@ fn command<'a>(alloc: Global) -> Result<Command<'a>, AllocError>
 const TYPES_WITH_FORMAT: &str =
     "error: the argument '--types' cannot be used with '--format <N>'\n\nFor more information, try '--help'.\n";
 
-/// Returns the fault for a value of `--format` that names no format, or stands beside `--types`.
-fn format_fault(alloc: Global, types: bool, word: Option<&str>) -> OptionFault
+/// Message for `--details` beside `--format`.
+const DETAILS_WITH_FORMAT: &str =
+    "error: the argument '--details' cannot be used with '--format <N>'\n\nFor more information, try '--help'.\n";
+
+/// Message for `--types` beside `--details`.
+const TYPES_WITH_DETAILS: &str =
+    "error: the argument '--types' cannot be used with '--details'\n\nFor more information, try '--help'.\n";
+
+/// Returns the fault for a value of `--format` that names no format, or for two of `--types`, `--details` and `--format`.
+fn format_fault(alloc: Global, types: bool, details: bool, word: Option<&str>) -> OptionFault
     ensures { OnFault (Unit {0}) ⊥ result }
 {
     let word = word.unwrap_or("");
-    let text = if types {
+    let text = if types && details {
+        String::from_str(alloc, TYPES_WITH_DETAILS)
+    } else if types {
         String::from_str(alloc, TYPES_WITH_FORMAT)
+    } else if details {
+        String::from_str(alloc, DETAILS_WITH_FORMAT)
     } else {
         format!(in alloc;
             "error: invalid value '{word}' for '--format <N>'\n  [possible values: 1, 2]\n\nFor more information, try '--help'.\n"
@@ -125,8 +152,8 @@ fn format_fault(alloc: Global, types: bool, word: Option<&str>) -> OptionFault
     }
 }
 
-/// Reads the words of the command line, which must be a file and optionally `--json`, and `--types` or `--format N`, as
-/// `clap` reads them, with N `1` or `2`. Without `--format N` the format is two. Own rule of the profile.
+/// Reads the words of the command line, which must be a file and optionally `--json`, and `--types`, `--details` or
+/// `--format N`, as `clap` reads them, with N `1` or `2`. Without `--format N` the format is two. Own rule of the profile.
 ///
 /// # Errors
 ///
@@ -134,7 +161,13 @@ fn format_fault(alloc: Global, types: bool, word: Option<&str>) -> OptionFault
 pub fn check_options(alloc: Global, words: &[&str]) -> Result<CheckOptions, OptionFault>
     ensures read { IfOk result
         (λ o. asked (map (λ w. w.now) words.now)
-        ≡ Some (record { json = o.json; types = o.types; format = o.format; file = string_bytes o.file })) }
+        ≡ Some (record {
+          json = o.json;
+          types = o.types;
+          details = o.details;
+          format = o.format;
+          file = string_bytes o.file;
+        })) }
     ensures plain { are_plain (map (λ w. w.now) words.now) ≡ true
         → asked (map (λ w. w.now) words.now) ≡ plainly_asked (map (λ w. w.now) words.now) }
     ensures none { IfErr result
@@ -148,17 +181,19 @@ pub fn check_options(alloc: Global, words: &[&str]) -> Result<CheckOptions, Opti
         Err(error) => return Err(fault_of(alloc, &error)),
     };
     let types = matches.get_str("types").unwrap_or("") == "true";
+    let details = matches.get_str("details").unwrap_or("") == "true";
     let number = matches.get_str("format");
     // Tested here, since `clap` would keep a list of possible values, and of arguments that exclude one another, in
     // memory that no contract describes.
-    let Some(format) = format_asked(types, number) else {
-        return Err(format_fault(alloc, types, number));
+    let Some(format) = format_asked(types, details, number) else {
+        return Err(format_fault(alloc, types, details, number));
     };
     let json = matches.get_str("json").unwrap_or("") == "true";
     let file = String::from_str(alloc, matches.get_str("file").unwrap_or(""))?;
     Ok(CheckOptions {
         json,
         types,
+        details,
         format,
         file,
     })

@@ -1,6 +1,8 @@
-pub mod CallMisfits
-pub mod Clashes
-pub mod Lacking
-pub mod Misfits
-pub mod NameMisfits
-pub mod OverrideFaults
+pub mod ByCode
+pub mod DetailsMade
+pub mod LeftToTell
+pub mod OtherCodes
+pub mod OverrideChain
+pub mod OverrideSteps
+pub mod WalkHeld
+pub mod WalkRules

@@ -1,11 +1,4 @@
-pub mod Annotations
-pub mod CallLaws
-pub mod Calls
-pub mod Explains
-pub mod Facts
-pub mod Names
-pub mod Nodes
-pub mod Operations
-pub mod Overrides
-pub mod Sinks
-pub mod Statements
+pub mod ByCode
+pub mod Listed
+pub mod Made
+pub mod OverridesHeld

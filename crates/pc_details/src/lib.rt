@@ -1,9 +1,9 @@
 //! The reason for each finding of a module: its types, names and places.
 #![tactic(auto)]
 
-mod laws;
+mod by_code;
+mod explained;
+mod overriding;
+mod walked;
 
-pub use laws::{
-    clashes_are_exact, lacking_is_exact, method_misfits_are_exact, misfits_are_exact,
-    name_misfits_are_exact, override_faults_are_exact, value_misfits_are_exact,
-};
+pub use explained::{DetailedFinding, details_of};

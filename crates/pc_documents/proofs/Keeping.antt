@@ -1,4 +1,4 @@
--- What the place of a document says of the open documents.
+-- The open documents and their edits, by the place of a document among them.
 use Rattle.std.specs.List.{position_or_len}
 use Rattle.std.specs.Prelude.{bytes_eq, string_bytes, option_map, position, remove, find, is_some, nat_lt, slice_get}
 use Rattle.std.proofs.Common.{◌≡◌, ℕ, ◌+◌, ◌<◌, ◌≤◌, zero, suc, Bool, true, false, not, cond, List, [], ◌∷◌, ◌++◌}
@@ -19,7 +19,7 @@ place uri ds = position_or_len (has_uri uri) ds
 abbrev has : List ℕ → Document → Bool
 has uri document = bytes_eq (string_bytes document.uri) uri
 
--- what is found at a place below the end, and what there is where there is none
+-- a place is found exactly if it is below the end
 placed : (k n i : ℕ) → cond (nat_lt k n) (Some k) None ≡ Some i → (k ≡ i) × (k < n)
 placed k n i e = (grind (arith, nat_tests), grind (arith, nat_tests))
 

@@ -31,7 +31,7 @@ abbrev pub has_position : Encoding → List ℕ → Position → ReportedFinding
 has_position encoding text position item = is_within (position_at encoding text item.finding.place.start) position
     (position_at encoding text item.finding.place.end)
 
--- the two types of a flow
+-- the text of the two types of a flow
 abbrev pub flow_text : Option FlowTypes → List ℕ
 flow_text None = []
 flow_text (Some flow) =
@@ -53,7 +53,7 @@ abbrev pub ruled : List ℕ → List ℕ
 ruled [] = []
 ruled (byte ∷ bytes) = (byte ∷ bytes) ++ codes "\n\n---\n\n"
 
--- a text, followed by the explanation of one more finding
+-- a hover text, followed by the explanation of one more finding
 abbrev pub said_after : List ℕ → ReportedFinding → List ℕ
 said_after told item = ruled told ++ item_text item
 
@@ -82,7 +82,7 @@ module _ (answers : List ℕ → CheckerAnswer → Type 0) where
     pub is_there : IsByteAt encoding text position byte
     pub shown : IsShownAtByte text byte type
 
-  -- this is said of what is found in the text, and of the type at the position
+  -- the hover text at a position, given the findings of the text and the type shown at the position
   pub record IsSaidOf (text : List ℕ) (position : Position) (agreed : Agreed) (told : List ℕ) : Type 0 where
     pub found : CheckOutcome
     pub finds_it : answers text (outcome found)
@@ -90,17 +90,17 @@ module _ (answers : List ℕ → CheckerAnswer → Type 0) where
     pub shows_it : IsShownAt agreed.encoding text position type
     pub are : told ≡ hover_text agreed text found type position
 
-  -- what is said at a position of a text: nothing of one that is not known
+  -- the hover text at a position of a text, empty if the text is not known
   abbrev pub IsToldOf : Option (List ℕ) → Position → Agreed → List ℕ → Type 0
   IsToldOf None position agreed told = told ≡ []
   IsToldOf (Some text) position agreed told = IsSaidOf text position agreed told
 
-  -- what is said at a position of a document: nothing where it is not Python
+  -- the hover text at a position of a document, empty if it is not Python
   abbrev pub IsToldAs : Bool → Option (List ℕ) → Position → Agreed → List ℕ → Type 0
   IsToldAs false text position agreed told = told ≡ []
   IsToldAs true text position agreed told = IsToldOf text position agreed told
 
-  -- the type at a position, as it is said
+  -- the type shown at a position, as code in Markdown
   pub record IsTypeSaid (encoding : Encoding) (text : List ℕ) (position : Position) (told : List ℕ) : Type 0 where
     pub type : Option (List ℕ)
     pub shows_it : IsShownAt encoding text position type

@@ -10,11 +10,11 @@ use Rattle.pc_documents.specs.declared.checker.ReportedFinding.{ReportedFinding}
 abbrev pub texts_of : FlowTypes → List ℕ × List ℕ
 texts_of flow = (string_bytes flow.from, string_bytes flow.to)
 
--- what an item says: its finding, and the texts of the two types of its flow, where it has one
+-- the content of an item: its finding, and the texts of the two types of its flow, if it has one
 abbrev pub said_by : ReportedFinding → Finding × Option (List ℕ × List ℕ)
 said_by item = (item.finding, option_map texts_of item.flow)
 
--- the same is said: items that say the same in the same order, or the same refusal
+-- two outcomes say the same: items with the same contents in the same order, or the same refusal
 abbrev pub SayTheSame : CheckOutcome → CheckOutcome → Type 0
 SayTheSame (Items items) (Items others) = map said_by items.items ≡ map said_by others.items
 SayTheSame (Refused refusal) (Refused other) = refusal ≡ other

@@ -138,7 +138,7 @@ module _ (k : Standing) (seat : ℕ → Seat) (items : List RustExpr) (i : ℕ) 
       (sym (ap (λ es. items_find k (seats_from i seat) (exprs_of_list es)) (drop_all i items le)
       ∙ items_none k (seats_from i seat))) ∙ h
 
--- ---- whether the second stands too early
+-- ---- a second item that stands too early
 
 -- whether the first of several stands too early
 abbrev first_early : Standing → (ℕ → Seat) → Exprs → Test

@@ -1,6 +1,6 @@
 -- Types of a store with the same head are equal if their parts are.
 use Rattle.std.proofs.Common.{◌≡◌, ◌∙◌, ◌<◌, ◌≤◌, ◌+◌, ◌∷◌, ◌++◌, [], ℕ, List, length, map, take, get_or, refl, sym, ap}
-use Rattle.std.proofs.Common.{subst, Some, All, zero, suc}
+use Rattle.std.proofs.Common.{subst, Some, All, zero, suc, false, not, rules}
 use Rattle.std.proofs.lemmas.List.{length-map, map-append, take_more, take_all}
 use Rattle.std.proofs.lemmas.List.Elements.{All-get_or}
 use Rattle.std.proofs.lemmas.Option.{slice_get_read}
@@ -9,8 +9,13 @@ use Rattle.pc_types.specs.Tree.{Tree}
 use Rattle.pc_types.specs.Shape.{nodes, parts}
 use Rattle.pc_types.specs.Head.{head_of, part_count}
 use Rattle.pc_types.specs.Normal.{IsNormal}
+use Rattle.pc_types.specs.contracts.head.HeadPartialEq.TheImpl as heads
 use Rattle.pc_types.specs.declared.head.Head.{Head}
 use Rattle.pc_types.proofs.Rebuilt.{told, part_fewer}
+
+-- heads that do not differ are the same
+pub same_heads : (h k : Head) → not ((heads.ghosts).eq h k) ≡ false → h ≡ k
+same_heads h k e = search rules
 
 pub given_at : {Ty : Type 0} (has : Ty → Type 0) (items : List Ty) (k : ℕ) (x : Ty) → All has items → k < length items
     → x ≡ get_or items k x → has x

@@ -59,6 +59,25 @@ struct LocalMet<Ty: Drop> {
     is_settled: bool,
 }
 
+/// Returns true only if the join of a type with others is that type; false if the caller does not ask.
+fn is_unchanged<S: TypeStore>(
+    store: &S,
+    alloc: Global,
+    is_asked: bool,
+    join: &S::Ty,
+    s: &S::Ty,
+) -> Result<bool, OutOfMemory>
+    requires join { S.has store.now join.now }
+    requires first { S.has store.now s.now }
+    ensures { IfOk result (λ same. same ≡ true → S.tree join.now ≡ S.tree s.now) }
+{
+    // Comparing large types part by part takes longer than joining them.
+    if !is_asked {
+        return Ok(false);
+    }
+    is_same_type(store, alloc, join, s)
+}
+
 /// Returns the type of a local that both paths assign, and whether it is settled. The type is the join of its types,
 /// settled only if that is `s` and the caller asks; if they have no join, it is the declared type, or `Any` while that
 /// is unknown, and not settled.
@@ -85,8 +104,7 @@ fn join_assigned<S: TypeStore>(
 {
     match store.join(alloc, parents, s, t)? {
         Some(join) => {
-            // Comparing large types part by part takes longer than joining them.
-            let is_settled = is_asked && is_same_type(store, alloc, &join, s)?;
+            let is_settled = is_unchanged(store, alloc, is_asked, &join, s)?;
             Ok(LocalMet {
                 ty: Some(join),
                 is_settled,

@@ -1,6 +1,6 @@
 //! Paths joined one after another: the join of two, and the locals at which a second join could still change something.
 
-ghost use Rattle.std.specs.Prelude.{◌≡◌, ◌∷◌, ◌++◌, [], IfOk, OnOk, length, if◌then◌else◌};
+ghost use Rattle.std.specs.Prelude.{◌≡◌, ◌∷◌, ◌++◌, [], IfOk, OnOk, length, min, take, if◌then◌else◌};
 ghost use Rattle.pc_types.specs.Store.{KeepsTypes};
 ghost use Rattle.pc_flow.specs.Agreement.{AgreeBelow, TakesInOutside};
 ghost use Rattle.pc_flow.specs.Declarations.{join_with};
@@ -37,6 +37,40 @@ pub struct EnvJoin<Ty: Drop> {
     pub unsettled: Vec<usize>,
 }
 
+/// Joins two paths at `locals`; elsewhere the first must already subsume the second. `env` has the types of the first
+/// path before, for the locals that are declared and on both paths, and those that `join_env` gives after. Returns the
+/// locals where joining the second path again could still change something; if that is not asked, each local that both
+/// assign counts as such.
+fn join_each<S: TypeStore>(
+    store: &mut S,
+    alloc: Global,
+    declarations: &Declarations<'_, S::Ty>,
+    locals: &[usize],
+    paths: &Paths<'_, S::Ty>,
+    env: &mut Env<S::Ty>,
+) -> Result<Vec<usize>, OutOfMemory>
+    requires declared { HasEach (S.has store.old) declarations.now.declared.now }
+    requires left { HasEach (S.has store.old) paths.now.first.now }
+    requires right { HasEach (S.has store.old) paths.now.second.now }
+    requires firsts { env.old ≡ take (min (length declarations.now.declared.now) (length paths.now.second.now))
+        paths.now.first.now }
+    requires taken_in { TakesInOutside declarations.now.parents.now locals.now (env_of S.tree paths.now.first.now)
+        (env_of S.tree paths.now.second.now) }
+    ensures value { OnOk result (GivesEnv S.has S.tree store.new env.new
+        (join_with S.tree declarations.now (env_of S.tree paths.now.first.now)
+        (env_of S.tree paths.now.second.now))) }
+    ensures settled { IfOk result (λ unsettled. TakesInOutside declarations.now.parents.now unsettled.items
+        (env_of S.tree env.new) (env_of S.tree paths.now.second.now)) }
+    ensures kept { KeepsTypes S.has store.old store.new }
+{
+    let mut unsettled = Vec::new(alloc);
+    for local in locals {
+        let is_settled = set_joined(store, alloc, declarations, *local, paths, env)?;
+        note_unsettled(&mut unsettled, *local, is_settled)?;
+    }
+    Ok(unsettled)
+}
+
 /// Joins `b` into `a` at `locals`; elsewhere `a` must already subsume `b`. Returns the same environment as `join_env`,
 /// and the locals where a second join could still change something; if that is not asked, each local that both assign
 /// counts as such.
@@ -63,16 +97,12 @@ fn join_at<S: TypeStore>(
     // The old types are read while they are replaced; a copy costs a pointer for each chunk.
     let before = a.copied(alloc)?;
     let mut env = a.first(declarations.declared.types().len().min(b.len()));
-    let mut unsettled = Vec::new(alloc);
     let paths = Paths {
         first: &before,
         second: b,
         is_asked,
     };
-    for local in locals {
-        let is_settled = set_joined(store, alloc, declarations, *local, &paths, &mut env)?;
-        note_unsettled(&mut unsettled, *local, is_settled)?;
-    }
+    let unsettled = join_each(store, alloc, declarations, locals, &paths, &mut env)?;
     Ok(EnvJoin { env, unsettled })
 }
 

@@ -36,6 +36,16 @@ pub struct Junction<'e> {
     pub right: &'e Expr,
 }
 
+/// Returns the environment where an operand of a junction decides it.
+fn deciding<'w, Ty: Drop>(connective: &Connective, ways: &'w BothWays<Ty>) -> &'w Env<Ty>
+    ensures { result.now ≡ way_out connective.now ways.now }
+{
+    match connective {
+        Connective::And => &ways.where_false,
+        Connective::Or => &ways.where_true,
+    }
+}
+
 /// Returns the environments where a junction is true and where it is false, given `settled`, the environment where the
 /// first operand alone decides it, and `second`, those after the second operand. Two paths lead to the outcome that
 /// either operand can decide; they are joined at the locals that the operands test, and agree at all others. Language
@@ -70,22 +80,16 @@ pub fn narrow_junction<S: TypeStore>(
         right,
     } = junction;
     let tested = tested_by_both(alloc, declarations.names, left, right)?;
+    let late = deciding(connective, &second);
+    let met = join_some(store, alloc, declarations, &tested, settled, late)?;
     match connective {
-        Connective::And => {
-            let late = &second.where_false;
-            let met = join_some(store, alloc, declarations, &tested, settled, late)?;
-            Ok(BothWays {
-                where_true: second.where_true,
-                where_false: met,
-            })
-        }
-        Connective::Or => {
-            let late = &second.where_true;
-            let met = join_some(store, alloc, declarations, &tested, settled, late)?;
-            Ok(BothWays {
-                where_true: met,
-                where_false: second.where_false,
-            })
-        }
+        Connective::And => Ok(BothWays {
+            where_true: second.where_true,
+            where_false: met,
+        }),
+        Connective::Or => Ok(BothWays {
+            where_true: met,
+            where_false: second.where_false,
+        }),
     }
 }

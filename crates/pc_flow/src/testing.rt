@@ -50,6 +50,13 @@ pub struct Split<Ty: Drop> {
     pub failing: Ty,
 }
 
+/// The types left of a type's members by a test: where it is true, and where it is false.
+#[derive(Drop)]
+struct SplitMembers<Ty: Drop> {
+    passing: Vec<Ty>,
+    failing: Vec<Ty>,
+}
+
 /// Returns the relation of a class to the tested class.
 fn class_stands(parents: &Parents, tested: usize, class: usize) -> TestRelation
     ensures { result ≡ class_standing parents.now tested class }
@@ -181,6 +188,35 @@ fn union_left<S: TypeStore>(
     }
 }
 
+/// Returns the parts of each member of a type that pass and fail a test, in the order of the members.
+fn split_members<S: TypeStore>(
+    store: &mut S,
+    alloc: Global,
+    parents: &Parents,
+    test: Test,
+    ty: &S::Ty,
+) -> Result<SplitMembers<S::Ty>, OutOfMemory>
+    requires has { S.has store.old ty.now }
+    requires well_formed { IsWellFormed parents.now (S.tree ty.now) }
+    ensures passing { IfOk result
+        (λ s. union (map S.tree s.passing.items) ≡ type_where_true parents.now (tested_of test) (S.tree ty.now)) }
+    ensures failing { IfOk result
+        (λ s. union (map S.tree s.failing.items) ≡ type_where_false parents.now (tested_of test) (S.tree ty.now)) }
+    ensures given_passing { IfOk result (λ s. All (S.has store.new) s.passing.items) }
+    ensures given_failing { IfOk result (λ s. All (S.has store.new) s.failing.items) }
+    ensures kept { KeepsTypes S.has store.old store.new }
+{
+    let members = store.members(alloc, ty)?;
+    let mut passing = Vec::new(alloc);
+    let mut failing = Vec::new(alloc);
+    for i in 0..members.len() {
+        let left = left_of(store, alloc, parents, test, &members[i])?;
+        add_left(&mut passing, left.passing)?;
+        add_left(&mut failing, left.failing)?;
+    }
+    Ok(SplitMembers { passing, failing })
+}
+
 /// Returns the parts of a type that pass and fail a test. Own rule of the profile.
 pub(crate) fn split_type<S: TypeStore>(
     store: &mut S,
@@ -197,15 +233,8 @@ pub(crate) fn split_type<S: TypeStore>(
     ensures kept { KeepsTypes S.has store.old store.new }
 {
     parents.ordered();
-    let members = store.members(alloc, ty)?;
-    let mut passing = Vec::new(alloc);
-    let mut failing = Vec::new(alloc);
-    for i in 0..members.len() {
-        let left = left_of(store, alloc, parents, test, &members[i])?;
-        add_left(&mut passing, left.passing)?;
-        add_left(&mut failing, left.failing)?;
-    }
-    let passing = union_left(store, alloc, &passing)?;
-    let failing = union_left(store, alloc, &failing)?;
+    let left = split_members(store, alloc, parents, test, ty)?;
+    let passing = union_left(store, alloc, &left.passing)?;
+    let failing = union_left(store, alloc, &left.failing)?;
     Ok(Split { passing, failing })
 }

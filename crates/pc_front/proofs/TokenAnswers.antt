@@ -275,7 +275,7 @@ module _ (c : LexicalContext) (text : List ℕ) (most : ℕ) (short : length tex
   no_longest t.Dedent bytes rest is h = absurd h.token
   no_longest t.End bytes rest is h = absurd h.token
 
-  -- so none is here
+  -- no token begins here
   none_here : (kind : TokenKind) (bytes rest : List ℕ) → text ≡ bytes ++ rest → IsToken kind bytes → ⊥
   none_here kind bytes rest is token = no_token text no_longest (length rest) kind bytes rest is (omega arith) token
 

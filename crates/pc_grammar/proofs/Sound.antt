@@ -1,5 +1,5 @@
 -- A module that is read is spelled by its tokens.
-use Rattle.std.proofs.Common.{◌≡◌, List, [], ◌∷◌, ◌++◌, refl, sym, subst, append_assoc, append-nil}
+use Rattle.std.proofs.Common.{◌≡◌, ℕ, List, [], ◌∷◌, ◌++◌, refl, sym, ◌∙◌, subst, append_assoc, append-nil}
 use Rattle.pc_token.specs.Lexeme.{Lexeme}
 use Rattle.pc_tree.specs.Tree.{Module}
 use Rattle.pc_grammar.specs.Grammar.Modules.{SpellsModule}
@@ -13,7 +13,7 @@ use Rattle.pc_grammar.specs.Machine.States.{dotted, group_due, item_due, keyword
 use Rattle.pc_grammar.specs.Machine.States.{Transition}
 use Rattle.pc_grammar.specs.Machine.States.{stuck, go}
 use Rattle.pc_grammar.specs.Machine.Lines.{start}
-use Rattle.pc_grammar.specs.Machine.{transition, at, lost, arrive, reads, refuses, stop_at, read_tokens, outcome_of}
+use Rattle.pc_grammar.specs.Machine.{transition, at, arrive, reads, refuses, short, stop_at, read_tokens, outcome_of}
 use Rattle.pc_grammar.specs.Fronts.{LedTo}
 use Rattle.pc_grammar.proofs.Runs.{run_lost}
 use Rattle.pc_grammar.proofs.Sequences.{map_right}
@@ -74,16 +74,24 @@ stood (keyword_named e xs ks n us s) t ts h = named_stood e xs ks n us s t ts h
 stood (key_due es us s) t ts h = key_stood es us s t ts h
 stood (ended m) t ts h = tt
 
+same_module : {n m : Module} → reads n ≡ reads m → n ≡ m
+same_module e = cc
+
+short_reads_none : {m : Module} → short ≡ reads m → ⊥
+short_reads_none e = cc
+
+refuses_reads_none : {byte : ℕ} {m : Module} → refuses byte ≡ reads m → ⊥
+refuses_reads_none e = cc
+
 -- only the end of the text is a module
 stop_spells : (s : State) (m : Module) (past : List Lexeme) → LedTo s past → stop_at s ≡ reads m → SpellsModule m past
-stop_spells (ended n) m past h e = let is : n ≡ m = cc in subst (λ z. SpellsModule z past) is h
-stop_spells _ m past h e = cc
+stop_spells (ended n) m past h e = subst (λ z. SpellsModule z past) (same_module e) h
+stop_spells _ m past h e = absurd (short_reads_none e)
 
 turn_spells : (ts : List Lexeme) (t : Lexeme) (past : List Lexeme) (m : Module)
     → ((s : State) → LedTo s past → read_tokens (at s) ts ≡ reads m → SpellsModule m (past ++ ts))
     → (x : Transition) → Stood x past → read_tokens (arrive x t) ts ≡ reads m → SpellsModule m (past ++ ts)
-turn_spells ts t past m onward stuck h e = let no : read_tokens (lost t.place.start) ts ≡ refuses t.place.start =
-    run_lost t.place.start ts in cc
+turn_spells ts t past m onward stuck h e = absurd (refuses_reads_none (sym (run_lost t.place.start ts) ∙ e))
 turn_spells ts t past m onward (go s) h e = onward s h e
 
 pub run_spells : (ts past : List Lexeme) (s : State) (m : Module) → LedTo s past → read_tokens (at s) ts ≡ reads m

@@ -1,6 +1,7 @@
 -- A line that is read is spelled by its tokens.
 use Rattle.std.proofs.Common.{◌≡◌, ℕ, ◌&&◌, Bool, true, false, List, [], ◌∷◌, ◌++◌, Some, None, refl, ap, sym, ◌∙◌}
 use Rattle.std.proofs.Common.{subst, inl, inr, append_assoc, codes, bytes_eq}
+use Rattle.std.proofs.lemmas.Bool.{false≢true}
 use Rattle.std.proofs.lemmas.Slice.Eq.{bytes_eq-Decides}
 use Rattle.pc_source.specs.declared.place.Place.{Place}
 use Rattle.pc_token.specs.declared.token.TokenKind.{TokenKind}
@@ -284,6 +285,9 @@ header_whole : {B : Spelling} (source imported : List ℕ) (ts : List Lexeme)
 header_whole source imported ts w = map_right (λ vs v. map_right
     (λ ws z. map_right (λ xs1 x. map_right (λ ys y. map_right no_back y) x) z) v) (to_right (to_right w))
 
+no_items : {A : Type 0} {x : A} {xs : List A} → x ∷ xs ≡ [] → ⊥
+no_items e = cc
+
 abbrev top_with : Bool → Bool → List Item → Top
 top_with d a is = record { imports_dataclass = d; imports_any = a; items = is }
 
@@ -296,11 +300,11 @@ dataclass_header after_future false false [] e s ts w = (
   end_nothing ts (map_right (λ vs v. end_nothing vs (no_front vs (map_left no_back v)))
       (to_right (map_left no_back w))),
 )
-dataclass_header after_future true a is e s ts w = cc
-dataclass_header after_future false true is e s ts w = cc
-dataclass_header after_future false false (x ∷ xs) e s ts w = cc
-dataclass_header after_dataclasses d a is e s ts w = cc
-dataclass_header after_headers d a is e s ts w = cc
+dataclass_header after_future true a is e s ts w = absurd (false≢true (sym s.0))
+dataclass_header after_future false true is e s ts w = absurd (false≢true (sym s.1))
+dataclass_header after_future false false (x ∷ xs) e s ts w = absurd (no_items s.2)
+dataclass_header after_dataclasses d a is e s ts w = absurd (false≢true e)
+dataclass_header after_headers d a is e s ts w = absurd (false≢true e)
 
 typing_header : (stage : HeaderStage) (d a : Bool) (is : List Item) → takes_header stage ≡ true
     → AtStage stage (top_with d a is) → (ts : List Lexeme)
@@ -311,16 +315,16 @@ typing_header after_future d false [] e s ts w = (
   end_nothing ts (map_right (λ vs v. map_left no_back v)
       (map_right (λ vs v. to_right (to_left v)) (to_right (map_left no_back w)))),
 )
-typing_header after_future d true is e s ts w = cc
-typing_header after_future d false (x ∷ xs) e s ts w = cc
+typing_header after_future d true is e s ts w = absurd (false≢true (sym s.1))
+typing_header after_future d false (x ∷ xs) e s ts w = absurd (no_items s.2)
 typing_header after_dataclasses d false [] e s ts w = (
   tt,
   end_nothing ts (map_right (λ vs v. map_left no_back v)
       (map_right (λ vs v. to_right (to_left v)) (to_right (map_left no_back w)))),
 )
-typing_header after_dataclasses d true is e s ts w = cc
-typing_header after_dataclasses d false (x ∷ xs) e s ts w = cc
-typing_header after_headers d a is e s ts w = cc
+typing_header after_dataclasses d true is e s ts w = absurd (false≢true (sym s.1))
+typing_header after_dataclasses d false (x ∷ xs) e s ts w = absurd (no_items s.2)
+typing_header after_headers d a is e s ts w = absurd (false≢true e)
 
 both_true : (a b : Bool) → (a && b) ≡ true → (a ≡ true) × (b ≡ true)
 both_true true b e = (refl, e)

@@ -10,7 +10,7 @@ use Rattle.pc_types.proofs.Rest.{mapped_rest}
 use Rattle.pc_intern.specs.declared.store.TypeId.{TypeId}
 use Rattle.pc_intern.specs.Store.{tree_of_type, IsInterned, AddsNothing}
 
--- what leaves a join as it is adds nothing
+-- a type whose join with another leaves the other unchanged adds nothing to it
 pub adds_nothing : (bases : Bases) (types : List BoxType) (s t : Tree) (x : TypeId) → IsInterned types x
     → t ≡ unwrap_or (join bases s (tree_of_type x)) Object → t ≡ s → AddsNothing bases types t x.number
 adds_nothing bases types s t x h j e = λ u at.

@@ -150,7 +150,7 @@ numbered types (t ∷ ts) h =
     let b = numbered types ts (All-tail (IsInterned types) t ts h) in
     λ i. a i ∷ b i
 
--- what a test of two held types says
+-- the test of two held types is true exactly if the first is a static subtype of the second
 pub static_told : (bases : Bases) (types : List BoxType) (s t : TypeId) (r : Bool) → AreSmaller bases → IsInterned types s
     → IsInterned types t → r ≡ static_test bases (tree_of_type s) (tree_of_type t) → IsTrue r ↔ Static bases (tree_of_type s) (tree_of_type t)
 static_told bases types s t r smaller h g e =
@@ -172,7 +172,7 @@ box_means types ty b h at =
     let e : Some (tree_of_type ty) ≡ Some (tree_of b) = sym h.at ∙ q in
     cc
 
--- what a held type means that a node tells
+-- a held type with the number of a node means the tree of the type at that node
 told_meaning : (types : List BoxType) (node : TypeNode) (n : ℕ) (r : TypeId) (w : IsNodeAt types node n) → IsInterned types r
     → r.number ≡ n → tree_of_type r ≡ tree_of w.ty
 told_meaning types node n r w h e = meant types r n (tree_of w.ty) h e (map_at tree_of types n w.ty w.at)
@@ -281,7 +281,7 @@ other_members Never f g = absurd (f refl)
 other_members (Union a b) f g = absurd (g (length (members (Union a b))) refl)
 other_members _ f g = refl
 
--- what fills an empty list is nothing
+-- no items are taken from an empty list
 take_nil : {X : Type 0} (n : ℕ) → take {A = X} n [] ≡ []
 take_nil zero = refl
 take_nil (suc n) = refl

@@ -16,7 +16,7 @@ use Rattle.pc_intern.proofs.AtOnce.{never_join}
 use Rattle.pc_intern.proofs.Held.{within, numbered, two_numbers}
 use Rattle.pc_intern.proofs.Places.{same_items}
 
--- what is kept about types is kept about their numbers
+-- a kept join stays right if the numbers of its types and of its result are the same
 pub same_types : (bases : Bases) (types : List BoxType) (j k : Joined) → j.types.items ≡ k.types.items
     → j.joined ≡ k.joined → IsJoined bases types j → IsJoined bases types k
 same_types bases types j k e f h =
@@ -41,7 +41,7 @@ pub two_joined : (bases : Bases) (s t : Tree) → nodes s ≤ node_limit
     → types_joined bases (s ∷ t ∷ []) ≡ unwrap_or (join bases s t) Object
 two_joined bases s t l = ap (λ o. unwrap_or (join bases (unwrap_or o Object) t) Object) (never_join bases s l)
 
--- what several types join to is what two do, if it is not object
+-- a join, replaced by object if there is none, exists if the result is not object
 pub some_joined : (o : Option Tree) (u : Tree) → u ≡ unwrap_or o Object → (u ≡ Object → ⊥) → o ≡ Some u
 some_joined None u e n = absurd (n e)
 some_joined (Some v) u e n = ap Some (sym e)
@@ -63,7 +63,7 @@ many_kept bases types tys j u e h f g m =
       at_joined = ap (tree_at types) f ∙ g.at ∙ ap Some m;
     }
 
--- so may that of two held types
+-- the join of two held types may be kept
 pub two_kept : (bases : Bases) (types : List BoxType) (s t : TypeId) (j : Joined) (u : TypeId)
     → j.types.items ≡ s.number ∷ t.number ∷ [] → IsInterned types s → IsInterned types t → j.joined ≡ u.number
     → IsInterned types u → join bases (tree_of_type s) (tree_of_type t) ≡ Some (tree_of_type u) → IsJoined bases types j
@@ -75,7 +75,7 @@ two_kept bases types s t j u e h k f g m =
           ∙ ap (λ o. unwrap_or o Object) m));
     }
 
--- what is kept of two types is their join, if it is not object
+-- the kept join of two types is their join, if it is not object
 pub two_kept_is : (bases : Bases) (s t u : Tree) → nodes s ≤ node_limit → u ≡ types_joined bases (s ∷ t ∷ [])
     → (u ≡ Object → ⊥) → join bases s t ≡ Some u
 two_kept_is bases s t u l e n = some_joined (join bases s t) u (e ∙ two_joined bases s t l) n

@@ -8,7 +8,7 @@ use Rattle.std.proofs.lemmas.Map.{none_passes_from_lookup}
 use Rattle.std.proofs.lemmas.Option.{slice_get-map}
 
 module _ {X : Type 0} where
-  -- what stands at a place stays there when others are put after
+  -- an item keeps its index when others are appended
   pub stays : (xs ys : List X) (n : ℕ) (x : X) → slice_get xs n ≡ Some x → slice_get (xs ++ ys) n ≡ Some x
   stays [] ys zero x h = cc
   stays [] ys (suc n) x h = cc

@@ -56,7 +56,7 @@ AnswersLines text lines items =
 
 module _ {I T : Type 0} (steps : I → Option (Result Line Fault) → I → Type 0)
     (gives : T → Option (Result (Token (Bor (List ℕ))) Fault) → T → Type 0) where
-  -- whatever items the iterator of tokens yields, the iterator of lines yields some lines, of which they are the result
+  -- the items of the iterator of tokens are always the result of lines that the iterator of lines yields
   abbrev pub LaysOut : List ℕ → I → T → Type 0
   LaysOut text it toks = (items : List (Result (Token (Bor (List ℕ))) Fault)) → Yields gives toks items →
       (ks : List (Result Line Fault)) × Yields steps it ks

@@ -18,13 +18,12 @@ abbrev pub IsOpen : ℕ → List LogicalLine → Type 0
 IsOpen column [] = ⊥
 IsOpen column (l ∷ ls) = (l.column ≡ column) ⊎ ((column < l.column) × IsOpen column ls)
 
--- a line of this column is inside the suite of a line with P, one that is less deep than the column and than each line
--- since
+-- a line of this column is inside the suite of a line with P: one less deep than the column and than each line after it
 abbrev pub IsInside : (LogicalLine → Type 0) → ℕ → List LogicalLine → Type 0
 IsInside P column [] = ⊥
 IsInside P column (l ∷ ls) = ((l.column < column) × P l) ⊎ IsInside P (min column l.column) ls
 
--- the line is less deep than the one before, but at a column that no open suite has
+-- the line is less deep than the one before, at a column that no open suite has
 abbrev pub ReturnsNowhere : LogicalLine → List LogicalLine → Type 0
 ReturnsNowhere l [] = ⊥
 ReturnsNowhere l (before ∷ ls) = (l.column < before.column) × (¬ (IsOpen l.column (before ∷ ls)))

@@ -14,7 +14,7 @@ use Rattle.pc_machine.specs.Names.{global_by_name}
 use Rattle.pc_machine.specs.Machine.{global_of as global_seen, bound_of}
 use Rattle.pc_machine.specs.Globals.{index_of_name, name_of_global, ArePlaced}
 
--- what a name means is what is bound at its first place
+-- the binding of a global that the program found, if any
 abbrev pub bound_at : Option RustGlobal → Option GlobalBinding
 bound_at None = None
 bound_at (Some g) = Some (bound_of g.bound)

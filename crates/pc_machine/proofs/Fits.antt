@@ -132,7 +132,7 @@ change_fits f = record {
   };
 }
 
--- what a plain action comes to is what it may come to, or Cut
+-- the outcome of a plain action is the same as the free one, or Cut
 pub data Limits (free plainly : Outcome) : Type 0 where
   same_outcome : plainly ≡ free → Limits free plainly
   cut_off : plainly ≡ stops Cut → Limits free plainly

@@ -11,7 +11,7 @@ use Rattle.pc_machine.proofs.Lists.{map_both}
 abbrev pub unbound_name : Name → Local
 unbound_name n = unbound n.text
 
--- those of a statement: its own, then those of its suites
+-- the names that a statement binds are its own, and then those of its suites
 pub names_parts : (s : Stmt) → map unbound (names_bound_by s) ≡ map unbound_name (own_names s)
     ++ (map unbound (names_bound_in (branches_of_stmt s)) ++ map unbound (names_bound (last_suite s)))
 names_parts (pass p) = refl

@@ -1,4 +1,4 @@
--- What is written by an end is what is replied in a session.
+-- The bytes written by the end of the server are the replies of a session.
 use Rattle.std.proofs.Common.{◌≡◌, ℕ, Bool, true, false, List, [], ◌∷◌, ◌++◌, Option, refl, sym, ap, ap₂, ◌∙◌}
 use Rattle.std.proofs.Common.{subst, inl, inr, append_assoc}
 use Rattle.std.specs.Prelude.{flat_map}
@@ -54,7 +54,7 @@ lost_sent = record {
 module _ (answers : List ℕ → CheckerAnswer → Type 0) where
   -- ---- runs
 
-  -- a turn is an exchange, of which the replies were sent
+  -- a turn is an exchange whose replies were sent
   record IsExchange (old : State) (message sent : List ℕ) (new : State) : Type 0 where
     lost : Bool
     replies : List Data
@@ -82,7 +82,7 @@ module _ (answers : List ℕ → CheckerAnswer → Type 0) where
     are_sent = subst (λ b. AreSent (lost_data ∷ []) b) (sym it.told) lost_sent;
   }
 
-  -- a run is exchanges, of which the replies were sent
+  -- a run is a list of exchanges whose replies were sent
   record AreExchanges (old : State) (messages : List (List ℕ)) (sent : List ℕ) (new : State) : Type 0 where
     arrivals : List Arrival
     came : messages_of arrivals ≡ messages

@@ -13,12 +13,12 @@ use Rattle.pc_message_loop.specs.declared.serving.ServingEnd.{ServingEnd}
 use Rattle.pc_message_loop.specs.declared.serving.ServingEnd.TheVariants as the_end
 use Rattle.pc_message_loop.specs.Runs.{OnEnd, TakesSome}
 
--- the messages that came, without whether they were lost
+-- the messages that came, whether or not they were lost
 abbrev pub messages_of : List Arrival → List (List ℕ)
 messages_of arrivals = map (λ arrival. arrival.message) arrivals
 
 module _ (answers : List ℕ → CheckerAnswer → Type 0) where
-  -- the bytes are the frames of what is replied to these messages in a session from its beginning
+  -- the bytes are the frames of the replies to these messages in a session from its beginning
   pub record AreOfSession (messages : List (List ℕ)) (bytes : List ℕ) : Type 0 where
     pub arrivals : List Arrival
     pub came : messages_of arrivals ≡ messages
@@ -28,7 +28,7 @@ module _ (answers : List ℕ → CheckerAnswer → Type 0) where
     pub are_sent : AreSent replies bytes
 
   module _ {R W : Type 0} (remaining : R → Option (List ℕ)) (contents : W → Option (List ℕ)) where
-    -- the input gave framed messages, and of the bytes of a session over them this was written
+    -- the input gave framed messages, and the bytes of a session over them were written, as far as `IsWritten` says
     pub record IsAnswered (input : Counted R) (IsWritten : List ℕ → Type 0) : Type 0 where
       pub messages : List (List ℕ)
       pub given : List ℕ
@@ -39,7 +39,7 @@ module _ (answers : List ℕ → CheckerAnswer → Type 0) where
       pub of_session : AreOfSession messages bytes
       pub written : IsWritten bytes
 
-    -- what was written by an end: all bytes of a session, or a beginning of them where a device failed
+    -- the output at an end: all bytes of a session, or a beginning of them if a device failed
     abbrev pub IsAnsweredAt : ServingEnd → Counted R → Counted W → Counted W → Type 0
     IsAnsweredAt the_end.Failed input output after = IsAnswered input (λ bytes. TakesSome contents bytes output after)
     IsAnsweredAt end input output after = IsAnswered input (λ bytes. TakesAll contents bytes output after)

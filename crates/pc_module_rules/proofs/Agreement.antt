@@ -155,7 +155,7 @@ is_other (call p c args kws) callee h = go (is_name c) refl h
     }
 is_other _ callee h = absurd (none-some _ h)
 
--- ---- what a module's names mean
+-- ---- meanings of a module's names
 
 -- the constants and classes that names mean are there
 abbrev IsThere : ℕ → ℕ → NameMeaning → Type 0
@@ -324,7 +324,7 @@ constants_counted m (constant_item p c ∷ rest) labels = ap suc (constants_coun
 constants_counted m (class_item p c ∷ rest) labels = constants_counted m rest labels.rest
 constants_counted m (def_item p f ∷ rest) labels = constants_counted m rest labels.rest
 
--- ---- what is not of scopes
+-- ---- findings other than those of scopes
 
 returns_code : {bases : Bases} {t : Tree} {out : Option Env} {c : Option Code} → ReturnsWell bases t out c → (x : Code)
     → c ≡ Some x → is_of_scopes x ≡ false
@@ -356,7 +356,7 @@ module _ (m : Module) (f : Finding) (s : is_of_scopes f.code ≡ true) where
     ]
   ]
 
--- ---- what labels say is found of scopes
+-- ---- from labels to findings of scopes
 
 module _ (m : Module) (labels : Labelling m) (f : Finding) (s : is_of_scopes f.code ≡ true) where
   abbrev Constants : List Tree
@@ -607,7 +607,7 @@ module _ (m : Module) (labels : Labelling m) (f : Finding) (s : is_of_scopes f.c
           function_scope m labels f s (owners.Func b.functions) d (ap (slice_get (functions_in m.items)) r.functions
           ∙ kind_here m done (def_item p d) rest all as_function d refl) k law h
 
--- ---- what is found of scopes is said by labels
+-- ---- from findings of scopes to labels
 
 module _ (m : Module) (constants : List Tree) where
   -- a constant with its labels

@@ -107,7 +107,7 @@ module _ (m : Module) (ctx : Context) (returned : Tree) where
     same_assigned table env (to_attribute p o field) e f g = record { table = refl; env = refl }
     same_assigned table env (to_index p o i) e f g = record { table = refl; env = refl }
 
-    -- ---- what a `for` goes over
+    -- ---- iterables of `for` loops
 
     same_values : (table : DeclaredTypes) (env : Env) (e : Expr)
         → values_item a (standing_here a table env) e ≡ values_item b (standing_here b table env) e

@@ -122,7 +122,7 @@ module _ (setting : Surroundings) where
             λ F gF s. record { first = v.lawful F gF s; flows = fl.lawful; rest = r.lawful F gF s };
       }
 
-  -- ---- what a `for` goes over
+  -- ---- iterables of `for` loops
 
   -- the iterable of a `for` has lawful labels, and each turn binds a well-formed type
   pub record IterableLabelled (ds : List Tree) (seen : NamesBound) (env : Env) (e : Expr) : Type 0 where

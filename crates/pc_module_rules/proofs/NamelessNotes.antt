@@ -184,7 +184,7 @@ module _ (k : Standing) where
       (codes_nameless p (call_label k.context.bases offers).codes))
 
   module _ (context : BodyContext) where
-    -- ---- what a `for` goes over
+    -- ---- iterables of `for` loops
 
     pub iterable_nameless : (e : Expr) → AreNameless (iterable_finds context k e)
     iterable_nameless (call p (name n) args kws) = by_test (is_range (context.context.resolve n.text))
@@ -223,7 +223,7 @@ module _ (k : Standing) where
         (nameless_both (flows_at (place_of i) flows) rest (flows_nameless (place_of i) flows)
         (stored_nameless offers p e)))
 
-    -- ---- what may be missing
+    -- ---- optional expressions and `return`
 
     pub option_nameless : (want : Option Tree) (e : Option Expr) → AreNameless (option_finds context k want e)
     option_nameless want None = no_notes

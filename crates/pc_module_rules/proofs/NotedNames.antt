@@ -16,7 +16,7 @@ module _ (P : List Note → Type 0) (none : P []) (one : (p : Place) (d : Tree) 
     local_holds None now p = none
     local_holds (Some d) now p = one p d now
 
-    -- what holds of no notes and of each note of a name holds of the note of a name, if there is one
+    -- a property that holds of no notes, and of each single note of a name, holds of the notes of a name
     pub note_holds : (valued : Test) (table : DeclaredTypes) (env : Env) (r : NameMeaning) (p : Place)
         → P (name_note valued table env r p)
     note_holds valued table env (res.Local x) p = local_holds (bound_type table x)

@@ -43,7 +43,7 @@ noted_type every (named p d c) = []
 abbrev pub noted_types : (every : Test) → List Note → List (Place × Tree)
 noted_types every notes = flat_map (noted_type every) notes
 
--- those that are shown
+-- the types noted without the hidden ones are the types that notes show
 pub shown_types : (notes : List Note) → noted_types false notes ≡ types_of notes
 shown_types [] = refl
 shown_types (told f flow ∷ ns) = shown_types ns

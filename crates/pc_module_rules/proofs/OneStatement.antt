@@ -314,7 +314,7 @@ module _ (m : Module) (ctx : Context) (ds ds' : List Tree) where
       h'.1 in
       λ word x among r. rest word x (among_later word n ns seen among) r
 
-  -- ---- what a `for` goes over
+  -- ---- iterables of `for` loops
 
   record IterableOne {A : Type 0} (mk mk' : A) (item item' : Label) : Type 0 where
     labels : mk ≡ mk'

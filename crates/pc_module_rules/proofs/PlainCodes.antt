@@ -88,7 +88,7 @@ ArePlain cs = AllByRecursion IsPlain cs
 abbrev pub LabelPlain : Label → Type 0
 LabelPlain m = ArePlain m.codes
 
--- ---- what operations come to on members
+-- ---- operations on members
 
 -- likewise of an offer
 abbrev OfferPlain : Offer → Type 0

@@ -107,7 +107,7 @@ module _ (P : Code → Type 0) where
       onto_holds (add_code before c) cs (in_both (AllByRecursion P) (has_code before c) before (before ++ c ∷ []) h
       (all_append P before (c ∷ []) h (k.0, tt))) k.1
 
--- ---- what holds of notes of codes and of flows
+-- ---- properties of the notes of codes and of flows
 
 module _ (P : Note → Type 0) (p : Place) where
   -- it holds of the finding of a code, by itself
@@ -145,7 +145,7 @@ module _ (P : Note → Type 0) (p : Place) where
   behind_holds (f ∷ fs) h before = one_flow before f.from f.into f.code (λ codes. flows_behind p codes fs) h.0
       (behind_holds fs h.1)
 
--- ---- what the tests say
+-- ---- codes by the tests
 
 module _ (bases : Bases) where
   -- the code of a flow, if it has one, is the one by the tests
@@ -311,7 +311,7 @@ module _ (bases : Bases) where
         (formed_whole keeps value m.first _ (formed_parts keeps value m.first h.0))
         (formed_then _ _ (formed_flows (place_of value) m.flows h.1) (formed_keywords keeps rest m.rest h.2))
 
--- ---- what is tested in an expression
+-- ---- tests in an expression
 
 module _ (ctx : Context) (declared : List Tree) (keeps : Test) where
   abbrev labels_here : Env → (want : Option Tree) → (e : Expr) → Labels e

@@ -64,7 +64,7 @@ use Rattle.pc_module_rules.proofs.StoredTypes.{fields_stored, items_stored, keys
 use Rattle.pc_module_rules.proofs.StoredTypes.{turns_well_formed}
 use Rattle.pc_module_rules.proofs.WalkedTables.{types_well_formed}
 
--- ---- what stays so over a walk
+-- ---- invariants of a walk
 
 -- the types of an environment are well-formed, if there is one
 abbrev OutWellFormed : Bases → Option Env → Type 0
@@ -326,7 +326,7 @@ module _ (context : BodyContext) (ck : ContextWellFormed context.context)
       e found kt ke kf
   assigned_right table env (to_index p o i) e found kt ke kf = target_stored table env (to_index p o i) e found kt ke kf
 
-  -- ---- what a `for` goes over
+  -- ---- iterables of `for` loops
 
   -- the type of a turn's item is well-formed, and its codes are others than that of a dynamic flow
   record ItemRight (m : Label) : Type 0 where

@@ -89,7 +89,7 @@ module _ (m : Module) (ctx : Context) (declared : List Tree) (part : Expr) (f : 
   annotated_found env seen n a (Some e) labels flows after law h =
       elim h [ inl is ↦ bound_found env seen n (ctx.resolve n.text) _ e labels flows after law is | inr b ↦ absurd b ]
 
-  -- ---- what a `for` goes over
+  -- ---- iterables of `for` loops
 
   -- `range` is a name that means something
   not_range : (n : Name) → is_range (ctx.resolve n.text) ≡ true → NameSays ctx n f → ⊥

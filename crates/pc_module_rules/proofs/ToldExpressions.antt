@@ -93,7 +93,7 @@ module _ (code : Code) (own : is_of_scopes code ≡ false) (keeps : Test) (setti
       (coded_in code e labels) (coded_at code (place_of e) flows) (tell_in want kw e labels l)
       (tell_flowing want e labels ts flows kw l ks fl)
 
-  -- ---- what a `for` goes over
+  -- ---- iterables of `for` loops
 
   -- a call of `range`
   module _ (p : Place) (n : Name) (args : Exprs) (kws : Keywords) where
@@ -202,7 +202,7 @@ module _ (code : Code) (own : is_of_scopes code ≡ false) (keeps : Test) (setti
       (tell_grouped (xs ++ rest) a (b ++ c) ds (tell_then xs rest a ((b ++ c) ++ ds)
       (tell_in None tt o target.object l.object) (tell_grouped rest b c ds told_rest)))
 
-  -- ---- what may be missing
+  -- ---- optional expressions and `return`
 
   pub tell_option : (e : Option Expr) (labels : OptionLabels e) → LawfulOption m ctx declared returned env e labels
       → Tells code (option_finds context at_env None e) (coded_in_option code e labels)

@@ -31,7 +31,7 @@ use Rattle.pc_module_rules.proofs.PlainCodes.{in_both}
 
 -- ---- tests
 
--- what is found where two tests hold, where the first does not
+-- where the first of two tests fails, the choice by both of them is the rest
 first_fails : (a b : Test) → a ≡ false → (o rest : Pair) → (if a && b then or_else o rest else rest) ≡ rest
 first_fails true b e o rest = absurd (cc e)
 first_fails false b e o rest = refl
@@ -69,7 +69,7 @@ module _ (code : Code) (own : is_of_scopes code ≡ false) where
           ∙ subst (λ (x : Code). has_code before x ≡ true) (sym (text_one code c t)) e))
       test false t = refl
 
-  -- ---- what is found of flows
+  -- ---- findings of flows
 
   none_coded : (p : Place) (s t : Tree) (c : Code) → is_same_code code c ≡ false → coded_one code p s t (Some c) ≡ []
   none_coded p s t c e = ap (λ (b : Test). if b then record { place = p; from = s; into = t } ∷ [] else []) e

@@ -61,7 +61,7 @@ module _ (every : Test) (setting : Surroundings) (knows : KnowsRange setting) (r
   show_read want kw e labels l = subst (λ (xs : List Note). Shows every xs (types_in every e labels))
       (sym (found_is true setting declared table kt env h want kw e labels l)) (show_expression e labels)
 
-  -- ---- what a `for` goes over
+  -- ---- iterables of `for` loops
 
   -- a call of `range`
   module _ (p : Place) (n : Name) (args : Exprs) (kws : Keywords) where
@@ -166,7 +166,7 @@ module _ (every : Test) (setting : Surroundings) (knows : KnowsRange setting) (r
       (show_stored read os is p e labels (only_well_formed ctx.bases os (stored_types os)
       (items_stored ctx.bases (type_of o target.object) v.well_formed)) l.value))))
 
-  -- ---- what may be missing
+  -- ---- optional expressions and `return`
 
   pub show_option : (e : Option Expr) (labels : OptionLabels e) → LawfulOption m ctx declared returned env e labels
       → Shows every (option_finds context at_env None e) (types_in_option every e labels)

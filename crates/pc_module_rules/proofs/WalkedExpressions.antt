@@ -82,7 +82,7 @@ module _ (setting : Surroundings) where
           well_formed = subst (λ x. IsWellFormed ctx.bases (type_of e x)) q k.1;
         }
 
-    -- ---- what a `for` goes over
+    -- ---- iterables of `for` loops
 
     module _ (returned : Tree) where
       abbrev context : BodyContext

@@ -53,7 +53,7 @@ lists_both {P = P} {Q = Q} xs ys h k f = (to, from)
       | inr b ↦ Contains-append_right (findings_of xs) (findings_of ys) f ((k f).1 (b, q.1))
     ])
 
--- ---- what is found under labels
+-- ---- findings under labels
 
 pub lists_expression : (e : Expr) (m : Labels e) → Lists (notes_under false e m) (Finds e m)
 lists_expression e m f = let h = findings_listed e m f in (
@@ -109,7 +109,7 @@ lists_one g own f = (to, λ q. subst (Contains (g ∷ [])) (sym q.0) (first_amon
     to : Contains (g ∷ []) f → (f ≡ g) × IsElsewhere f
     to c = elim (among_first g [] f c) [ inl e ↦ (sym e, subst IsElsewhere e own) | inr n ↦ absurd (none_among f n) ]
 
--- ---- what a walk adds to what was found
+-- ---- findings that a walk adds
 
 pub adds_nothing : (before : List Note) → Adds before before (λ f. ⊥)
 adds_nothing before f = (λ h. inl h, λ h. elim h [ inl a ↦ a | inr b ↦ absurd b.0 ])

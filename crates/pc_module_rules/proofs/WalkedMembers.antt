@@ -43,7 +43,7 @@ pub without_annotations : {Says : Finding → Type 0} (xs : List Note) → Lists
     → Lists (xs ++ map plain_note []) Says
 without_annotations {Says = Says} xs h = subst (λ (l : List Note). Lists l Says) (sym (append-nil xs)) h
 
--- ---- what is said in two parts
+-- ---- findings in two parts
 
 pub in_halves : {A B C D : Type 0} → A ⊎ (B ⊎ (C ⊎ D)) → (A ⊎ B) ⊎ (C ⊎ D)
 in_halves s = elim s [ inl a ↦ inl (inl a) | inr t ↦ elim t [ inl b ↦ inl (inr b) | inr r ↦ inr r ] ]

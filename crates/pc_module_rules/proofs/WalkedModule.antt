@@ -30,7 +30,7 @@ use Rattle.pc_module_rules.proofs.WalkedItems.{BodiesSay, ItemsWalked, functions
 use Rattle.pc_module_rules.proofs.WalkedMembers.{function_split, function_joined, members_split, members_joined}
 use Rattle.pc_module_rules.proofs.WalkedMembers.{without_annotations}
 
--- ---- what is said of items, in three parts
+-- ---- findings of items, in three parts
 
 -- of the first item, of the others, and of either
 first_part : {A B C D E F : Type 0} → (A ⊎ B) ⊎ C → ((A ⊎ D) ⊎ (B ⊎ E)) ⊎ (C ⊎ F)

@@ -157,7 +157,7 @@ module _ (setting : Surroundings) (returned : Tree) (kr : IsWellFormed setting.c
       (lists_both ys (zs ++ stored_finds context at_env os p e) w.found
       (lists_both zs (stored_finds context at_env os p e) key s))))
 
-  -- ---- what may be missing
+  -- ---- optional expressions and `return`
 
   pub option_says : (e : Option Expr) (labels : OptionLabels e) → LawfulOption m ctx declared returned env e labels
       → Lists (option_finds context at_env None e) (OptionFinds m ctx e labels)

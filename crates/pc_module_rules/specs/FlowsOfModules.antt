@@ -53,8 +53,7 @@ module _ (code : Code) where
   coded_in_function (def_item p f) labels = coded_in_params f.params labels.params
 
   -- the flows with this code of a constant, in its initializer and into its type, or at the defaults in a class; none
-  -- if
-  -- the item is a function
+  -- if the item is a function
   abbrev pub coded_in_item : (i : Item) → ItemLabels i → List CodedFlow
   coded_in_item (constant_item p c) labels = coded_in code c.value labels.value ++ coded_at code (place_of c.value)
       labels.flows

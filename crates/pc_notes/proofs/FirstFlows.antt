@@ -290,7 +290,7 @@ text_of_pair c m flows notes has e is text at from into =
     × (rc_str_bytes text.2 ≡ type_text m f.1)))
     (sym (ap (λ p. flow_noted c p notes) at ∙ noted_pair c flows notes has e is)) (from, into)
 
--- what holds of each, and of one more
+-- P holds of each element of a list and one more, if it holds of each element and of the one more
 pub all_more : {X : Type 0} (P : X → Type 0) (xs : List X) (x : X) → AllByRecursion P xs → P x
     → AllByRecursion P (xs ++ x ∷ [])
 all_more P [] x all one = (one, tt)

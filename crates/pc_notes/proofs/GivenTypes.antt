@@ -1,14 +1,14 @@
 -- The types of labels and of flows by place are such as a store of boxes may give.
 use Rattle.std.proofs.Common.{◌≡◌, ◌≤◌, List, [], ◌∷◌, Bor, Bool as Test, true, false, Option, Some, None, ap, refl, sym, subst}
-use Rattle.std.specs.Prelude.{IfSome, if◌then◌else◌, box_value, option_map}
+use Rattle.std.specs.Prelude.{IfSome, if◌then◌else◌, option_map}
 use Rattle.pc_source.specs.declared.place.Place.{Place}
 use Rattle.pc_types.specs.Tree.{Tree}
 use Rattle.pc_types.specs.Normal.{IsNormal}
 use Rattle.pc_types.specs.Shape.{nodes, node_limit}
 use Rattle.pc_types.specs.Boxed.{tree_of, IsGiven}
 use Rattle.pc_types.specs.declared.boxed.BoxType.{BoxType}
-use Rattle.pc_notes.specs.Notes.{AreGiven, IsGivenFlow, IsGivenPair, flow_types, is_same_place, notes_of, pair_shown}
-use Rattle.pc_notes.specs.Notes.{shared_tree, type_noted}
+use Rattle.pc_notes.specs.Notes.{AreGiven, IsGivenFlow, IsGivenPair, flow_types, is_same_place, kept_tree, notes_of}
+use Rattle.pc_notes.specs.Notes.{pair_shown, shared_tree, type_noted}
 use Rattle.pc_notes.specs.declared.notes.NotedFlow.{NotedFlow}
 use Rattle.pc_notes.specs.declared.notes.NoteEntry.{NoteEntry}
 use Rattle.pc_notes.specs.declared.notes.NoteEntry.TheVariants.{Told, Typed, Bound}
@@ -32,7 +32,7 @@ type_given p (Bound q t ∷ es) h = type_given p es h.1
 type_given p (Typed shown q t ∷ es) h = go (is_same_place p q) (type_given p es h.1)
   where
     go : (b : Test) → IfSome (type_noted p (notes_of es)) IsGivenTree
-        → IfSome (if b then Some (tree_of (box_value t)) else type_noted p (notes_of es)) IsGivenTree
+        → IfSome (if b then Some (kept_tree t) else type_noted p (notes_of es)) IsGivenTree
     go true rest = (h.0.small, h.0.normal)
     go false rest = rest
 

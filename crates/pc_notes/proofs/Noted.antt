@@ -67,7 +67,7 @@ module _ (c : Code) (p : Place) where
   pub no_flow : (es : List NoteEntry) (i : ℕ) → length es ≤ i → flow_noted c p (notes_of (drop i es)) ≡ None
   no_flow es i le = ap (λ l. flow_noted c p (notes_of l)) (drop_all i es le)
 
--- ---- what is kept is given
+-- ---- flows that entries keep
 
 given_if : (b : Test) (o : Option NotedFlow) → IfSome o IsGivenFlow → IfSome (if b then o else None) IsGivenFlow
 given_if true o h = h

@@ -14,7 +14,7 @@ use Rattle.pc_types.specs.Internal.Rebuilding.{rebuilt}
 use Rattle.pc_types.proofs.Rebuilt.{rebuilt_is, part_fewer}
 
 module _ {S : Type 0} (tree : S → Tree) where
-  -- what stands at a place of types stands there of their trees
+  -- the tree of the type at an index is at that index among the trees
   pub tree_at : (items : List S) (k : ℕ) (x : S) → slice_get items k ≡ Some x → slice_get (map tree items) k
       ≡ Some (tree x)
   tree_at [] k x e = cc

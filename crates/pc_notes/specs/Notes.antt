@@ -7,6 +7,8 @@ use Rattle.std.specs.Prelude.{◌&&◌, nat_eq, bytes_eq, if◌then◌else◌, b
 use Rattle.std.specs.Borrow.{Bor}
 use Rattle.std.specs.List.{AllByRecursion}
 use Rattle.std.specs.Rc.{rc_value}
+use Rattle.std.specs.declared.rc.Rc.{Rc}
+use Rattle.std.specs.declared.alloc.Global.{Global}
 use Rattle.pc_source.specs.declared.place.Place.{Place}
 use Rattle.pc_tree.specs.declared.code.Code.{Code}
 use Rattle.pc_tree.specs.declared.code.Finding.{Finding}
@@ -61,6 +63,10 @@ types_of notes = flat_map shown_type notes
 abbrev pub type_shown : Place × Bor BoxType → Place × Tree
 type_shown t = (t.0, tree_of t.1.now)
 
+-- the tree of a type that notes keep
+abbrev pub kept_tree : Rc BoxType Global → Tree
+kept_tree t = tree_of (rc_value t)
+
 -- the bound name of a note, if it has one
 abbrev pub name_of_note : Note → List (Place × Tree × Option Tree)
 name_of_note (told f flow) = []
@@ -73,7 +79,7 @@ names_of_notes notes = flat_map name_of_note notes
 
 -- the meaning of the types of a bound name, with its place
 abbrev pub name_shown : Place × Bor BoundTypes → Place × Tree × Option Tree
-name_shown n = (n.0, tree_of n.1.now.declared, option_map tree_of n.1.now.current)
+name_shown n = (n.0, kept_tree n.1.now.declared, option_map kept_tree n.1.now.current)
 
 -- two places are the same
 abbrev pub is_same_place : Place → Place → Test
@@ -120,7 +126,7 @@ pair_shown t = (tree_of t.0.now, tree_of t.1.now)
 
 -- the tree of a shared type
 abbrev pub shared_tree : SharedType → Tree
-shared_tree s = tree_of (rc_value s.ty)
+shared_tree s = kept_tree s.ty
 
 -- a shared type is a type that a store of boxes may give
 abbrev pub IsGivenType : SharedType → Type 0
@@ -136,10 +142,10 @@ kept_flow c (Told f flow) = if is_same_code c f.code then option_map box_value f
 kept_flow c (Typed shown p t) = None
 kept_flow c (Bound p t) = None
 
--- the type of an entry, out of its box, if it is that of a label, shown or not
+-- the type of an entry, if it is that of a label, shown or not
 abbrev pub kept_type : NoteEntry → Option BoxType
 kept_type (Told f flow) = None
-kept_type (Typed shown p t) = Some (box_value t)
+kept_type (Typed shown p t) = Some (rc_value t)
 kept_type (Bound p t) = None
 
 -- the place of an entry
@@ -151,8 +157,8 @@ entry_place (Bound p t) = p
 -- the meaning of an entry
 abbrev pub note_of : NoteEntry → Note
 note_of (Told f flow) = told f (option_map flow_types (option_map box_value flow))
-note_of (Typed shown p t) = typed shown p (tree_of (box_value t))
-note_of (Bound p t) = named p (tree_of (box_value t).declared) (option_map tree_of (box_value t).current)
+note_of (Typed shown p t) = typed shown p (kept_tree t)
+note_of (Bound p t) = named p (kept_tree (box_value t).declared) (option_map kept_tree (box_value t).current)
 
 -- the meaning of entries
 abbrev pub notes_of : List NoteEntry → List Note
@@ -165,13 +171,13 @@ pub record IsGivenFlow (f : NotedFlow) : Type 0 where
 
 -- the types of a bound name are types that a store of boxes may give
 pub record IsGivenBound (b : BoundTypes) : Type 0 where
-  pub declared : IsGiven b.declared
-  pub current : IfSome b.current IsGiven
+  pub declared : IsGiven (rc_value b.declared)
+  pub current : IfSome b.current (λ t. IsGiven (rc_value t))
 
 -- the types that an entry keeps are types that a store of boxes may give
 abbrev pub IsGivenEntry : NoteEntry → Type 0
 IsGivenEntry (Told f flow) = IfSome (option_map box_value flow) IsGivenFlow
-IsGivenEntry (Typed shown p t) = IsGiven (box_value t)
+IsGivenEntry (Typed shown p t) = IsGiven (rc_value t)
 IsGivenEntry (Bound p t) = IsGivenBound (box_value t)
 
 -- a shown type is one that a store of boxes may give
@@ -192,6 +198,6 @@ abbrev pub ExplainsFlow : {Store Ty : Type 0} → (has : Store → Ty → Type 0
 ExplainsFlow has tree store None o = o ≡ None
 ExplainsFlow has tree store (Some p) o = has store p.0 × has store p.1 × (o ≡ Some (tree p.0, tree p.1))
 
--- two borrowed types are such as a store of boxes may give
+-- two borrowed types are types that a store of boxes may give
 abbrev pub IsGivenPair : Bor BoxType × Bor BoxType → Type 0
 IsGivenPair t = IsGiven t.0.now × IsGiven t.1.now

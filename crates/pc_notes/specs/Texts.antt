@@ -58,10 +58,10 @@ pub record HasFirstFlows (c : Code) (notes : List Note) (flows : BTreeMap Place 
 abbrev pub HasFirstTypes : List Note → BTreeMap Place (Bor BoxType) → Type 0
 HasFirstTypes notes types = (p : Place) → option_map (λ t. tree_of t.now) (get place_cmp types p) ≡ type_noted p notes
 
--- the text of a type is its text
+-- the text kept with a type is the text of that type
 abbrev pub IsNamed : Module → NamedType → Type 0
 IsNamed m named = rc_str_bytes named.text ≡ type_text m (tree_of (rc_value named.ty))
 
--- each type of a map, which is looked up by its mark, has its text
+-- each type of a map, by its mark, has its text
 abbrev pub HaveTexts : Module → BTreeMap ℕ NamedType → Type 0
 HaveTexts m known = (mark : ℕ) → IfSome (get nat_cmp known mark) (IsNamed m)

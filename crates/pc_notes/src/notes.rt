@@ -28,7 +28,7 @@ use pc_types::{BoxStore, BoxType, TypeStore};
 use std::alloc::Global;
 use std::collections::BTreeMap;
 use std::marker::Model;
-use std::rc::RcStr;
+use std::rc::{Rc, RcStr};
 
 /// The two types of a flow: the one that flows, and the one that it flows into.
 #[derive(Drop)]
@@ -49,8 +49,8 @@ impl NotedFlow {
 /// The types of a bound name: its declared type, and its current type after the binding, if it has a value then.
 #[derive(Drop)]
 pub struct BoundTypes {
-    pub declared: BoxType,
-    pub current: Option<BoxType>,
+    pub declared: Rc<BoxType>,
+    pub current: Option<Rc<BoxType>>,
 }
 
 /// A finding, with the types of its flow if it reports one; or the type of a label; or the types of a bound name.
@@ -58,7 +58,7 @@ pub struct BoundTypes {
 pub(crate) enum NoteEntry {
     Told(Finding, Option<Box<NotedFlow>>),
     /// Whether it is shown, its place, and the type.
-    Typed(bool, Place, Box<BoxType>),
+    Typed(bool, Place, Rc<BoxType>),
     /// The place of the name, and its types.
     Bound(Place, Box<BoundTypes>),
 }
@@ -201,10 +201,8 @@ impl Notes {
         requires { S.has store.now ty.now }
         ensures { OnOk result (notes_of self.new ≡ notes_of self.old ++ typed shown place (S.tree ty.now) ∷ []) }
     {
-        let mut boxes = BoxStore::new();
-        let ty = transfer(store, &mut boxes, alloc, ty)?;
-        self.entries
-            .push(NoteEntry::Typed(shown, place, Box::new(alloc, ty)?))?;
+        let SharedType { ty, .. } = self.types.shared(store, alloc, ty)?;
+        self.entries.push(NoteEntry::Typed(shown, place, ty))?;
         Ok(())
     }
 
@@ -222,11 +220,13 @@ impl Notes {
         ensures { OnOk result (notes_of self.new ≡ notes_of self.old
             ++ named place (S.tree declared.now) (option_map S.tree (option_copied current.entry)) ∷ []) }
     {
-        let mut boxes = BoxStore::new();
-        let declared = transfer(store, &mut boxes, alloc, declared)?;
+        let SharedType { ty: declared, .. } = self.types.shared(store, alloc, declared)?;
         let current = match current {
             None => None,
-            Some(ty) => Some(transfer(store, &mut boxes, alloc, ty)?),
+            Some(ty) => {
+                let SharedType { ty, .. } = self.types.shared(store, alloc, ty)?;
+                Some(ty)
+            }
         };
         let types = BoundTypes { declared, current };
         self.entries

@@ -1,4 +1,4 @@
-//! Types of flows, of which equal ones are shared.
+//! Noted types; equal types are shared.
 
 ghost use Rattle.std.specs.Prelude.{◌≡◌, IfOk, OnOk};
 ghost use Rattle.std.specs.Rc.{rc_str_bytes};
@@ -16,7 +16,7 @@ use std::alloc::Global;
 use std::collections::BTreeMap;
 use std::rc::{Rc, RcStr};
 
-/// A type of a flow, which others may share, and the mark that its store gave it, by which equal ones are found.
+/// A noted type, which others may share, and the mark that its store gave it, by which equal ones are found.
 #[derive(Drop)]
 pub(crate) struct SharedType {
     pub(crate) mark: usize,

@@ -16,7 +16,7 @@ module _ {Ty : Type 0} (tree : Ty → Tree) where
   read t = supported (tree t) []
 
   module _ (on : Tree → Offer) (members : List Ty) where
-    -- so many members have these types; the others are to come
+    -- the first i members have these types, and the others are still to be read
     abbrev pub AreRead : ℕ → List Ty → Type 0
     AreRead i types = map read types ++ map on (drop i (map tree members)) ≡ map on (map tree members)
 

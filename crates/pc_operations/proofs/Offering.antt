@@ -121,7 +121,7 @@ module _ {Store Ty : Type 0} (has : Store → Ty → Type 0) (tree : Ty → Tree
       sym (once_error (found_of (map (offer_with tree) offers))) ∙ ap has_error (sym e) ∙ w in
       record { given = h; is = λ j. record { type = label_type (tree l.ty) wrong found t j; codes = e j } }
 
--- ---- what operands flow into
+-- ---- the operand types of so many offers
 
 pub wrong_is : {Ty : Type 0} (tree : Ty → Tree) (offers : List (RustOffer Ty))
     → list_any (λ (o : RustOffer Ty). has_error (option_to_list o.found)) offers

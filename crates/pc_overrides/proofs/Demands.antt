@@ -100,7 +100,7 @@ module _ {Ty : Type 0} (tree : Ty → Tree) (s : Judging Ty) where
   listed_item xs k d all less is = subst (λ (y : Demand Ty). IsMethod s.classes.now y.method.now) (sym is)
       (All-get_or (λ (y : Demand Ty). IsMethod s.classes.now y.method.now) xs k d less all)
 
--- ---- what is asked by a method and by others
+-- ---- demands of a method and of others
 
 pub and_further : (a b c : Bool) → ((a && b) && c) ≡ (a && (b && c))
 and_further false b c = refl

@@ -14,7 +14,7 @@ use Rattle.pc_plain_runs.proofs.FuelModules.{module_same}
 
 -- ---- there is one at most
 
--- what is left is left once
+-- two runs that a result of steps leaves are the same run
 left_once : (l : After Value) (events others : List Place) (end last : End) → Leaves l events end
     → Leaves l others last → AreOneRun events end others last
 left_once (Came v w) events others end last h k = (h.0 ∙ sym k.0, h.1 ∙ sym k.1)

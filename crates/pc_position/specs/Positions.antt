@@ -34,13 +34,13 @@ pub record IsPositionOf (encoding : Encoding) (text : List ℕ) (byte : ℕ) (po
   pub line : position.line ≡ line_at text byte
   pub character : position.character ≡ character_at encoding text byte
 
--- a byte of the text, or its end, has the position, and none behind it has
+-- a byte of the text, or its end, has the position, and no later byte has it
 pub record IsLastByte (encoding : Encoding) (text : List ℕ) (position : Position) (byte : ℕ) : Type 0 where
   pub within : byte ≤ length text
   pub has : IsPositionOf encoding text byte position
   pub last : (later : ℕ) → byte < later → later ≤ length text → ¬ (IsPositionOf encoding text later position)
 
--- the byte at a position, the last one that has it; none if neither a byte of the text nor its end has it
+-- the last byte that has a position; none if neither a byte of the text nor its end has it
 abbrev pub IsByteAt : Encoding → List ℕ → Position → Option ℕ → Type 0
 IsByteAt encoding text position (Some byte) = IsLastByte encoding text position byte
 IsByteAt encoding text position None = (byte : ℕ) → byte ≤ length text → ¬ (IsPositionOf encoding text byte position)

@@ -26,6 +26,9 @@ first_more us s = ap (λ z. first_place (z ++ us)) s.is ∙ sym (ap first_place 
 pub starts_one : (t : Lexeme) (us : List Lexeme) → Starts (t ∷ us) t.place.start
 starts_one t us = record { head = t; tail = us; is = refl; start = refl }
 
+pub starts_at : (t : Lexeme) (us : List Lexeme) {n : ℕ} → t.place.start ≡ n → Starts (t ∷ us) n
+starts_at t us e = record { head = t; tail = us; is = refl; start = e }
+
 pub ends_more : {us : List Lexeme} {n : ℕ} (ts : List Lexeme) → Ends us n → Ends (ts ++ us) n
 ends_more ts e = record {
   before = ts ++ e.before;
@@ -37,6 +40,9 @@ ends_more ts e = record {
 
 pub ends_one : (t : Lexeme) → Ends (t ∷ []) t.place.end
 ends_one t = record { before = []; last = t; is = refl; end = refl }
+
+pub ends_at : (t : Lexeme) {n : ℕ} → t.place.end ≡ n → Ends (t ∷ []) n
+ends_at t e = record { before = []; last = t; is = refl; end = e }
 
 last_of : (ts : List Lexeme) (t : Lexeme) → last_place (ts ++ (t ∷ [])) ≡ t.place
 last_of [] t = refl
@@ -144,11 +150,12 @@ built_two o o' p p' first second expr level depth a b make k k' pl dp fm d f f' 
     (λ q. ap form_of_expr e ∙ fm (expr_of first) (expr_of second) p.tree p'.tree _ q)
 
 -- parentheses around an operand
-pub keeps_grouped : (o : Operand) (p : Part) (t u : Lexeme) → KeepsPart o p
-    → KeepsPart (record o { start = t.place.start; end = u.place.end; plain = false; level = 7 }) (grouped (t ∷ []) p u)
-keeps_grouped o p t u k = record {
-  starts = starts_one t _;
-  ends = ends_more (t ∷ p.tokens) (ends_one u);
+pub keeps_grouped : (o : Operand) (p : Part) (t u : Lexeme) {a b : ℕ} → t.place.start ≡ a → u.place.end ≡ b
+    → KeepsPart o p
+    → KeepsPart (record o { start = a; end = b; plain = false; level = 7 }) (grouped (t ∷ []) p u)
+keeps_grouped o p t u s e k = record {
+  starts = starts_at t _ s;
+  ends = ends_more (t ∷ p.tokens) (ends_at u e);
   first =
       k.first;
   plain = refl;

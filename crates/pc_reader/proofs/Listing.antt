@@ -8,7 +8,8 @@ use Rattle.pc_token.specs.declared.token.Token.{Token}
 use Rattle.pc_token.specs.declared.token.TokenKind.TheVariants as kind
 use Rattle.pc_token.specs.declared.token.Operator.TheVariants as sign
 use Rattle.pc_token.specs.Lexeme.{Lexeme}
-use Rattle.pc_tree.specs.Tree.{Exprs, no_exprs, Entries, tuple, dict, call, no_keywords}
+use Rattle.pc_tree.specs.Tree.{Expr, Exprs, no_exprs, Entries, tuple, dict, call, Keywords as KeywordTrees}
+use Rattle.pc_tree.specs.Tree.{no_keywords}
 use Rattle.pc_grammar.specs.Grammar.{first_place}
 use Rattle.pc_grammar.specs.Machine.{at, transition}
 use Rattle.pc_grammar.specs.Machine.Kinds.{operand_start}
@@ -20,14 +21,16 @@ use Rattle.pc_grammar.specs.Machine.Expressions.{needed_level, bare_part, head_t
 use Rattle.pc_reader.specs.declared.reader.Reader.{Reader}
 use Rattle.pc_reader.specs.declared.operand.Operand.{Operand}
 use Rattle.pc_reader.specs.declared.items.Items.{Items}
+use Rattle.pc_reader.specs.declared.items.Keywords.{Keywords}
 use Rattle.pc_reader.specs.declared.items.Listed.{Listed}
-use Rattle.pc_reader.specs.Internal.Brackets.{KeepsItems}
+use Rattle.pc_reader.specs.declared.items.CallArguments.{CallArguments}
+use Rattle.pc_reader.specs.Internal.Brackets.{KeepsItems, KeepsKeywords}
 use Rattle.pc_reader.specs.Internal.Operands.{KeepsPart, Builds, Starts}
 use Rattle.pc_reader.specs.Reading.{lexeme, IsAhead, Came, Onward, Takes, IsReady, left_in}
-use Rattle.pc_reader.specs.Internal.Expressions.{GivesOperand, OperandGoesOn, ListsOn}
+use Rattle.pc_reader.specs.Internal.Expressions.{GivesOperand, OperandGoesOn, ListsOn, PassesOn}
 use Rattle.pc_reader.proofs.BracketLoops.{ElementsSoFar}
 use Rattle.pc_reader.proofs.Endings.{item_closes}
-use Rattle.pc_reader.proofs.Building.{first_more, starts_more, ends_more, ends_one}
+use Rattle.pc_reader.proofs.Building.{first_more, starts_more, ends_more, ends_at}
 use Rattle.pc_reader.proofs.SameKind.{is_same}
 use Rattle.pc_reader.proofs.Steps.{step_to, alike, not_seen}
 
@@ -112,13 +115,13 @@ module _ {X I : Type 0} (texts : TextOf X) (source : TokensOf I (Result (Token X
       ≡ false
       → (q : GivesOperand texts source (λ s. needed_level s ≡ 0) 0 b c o)
       → ((es : Exprs) (p : Part) → KeepsItems now es → KeepsPart o p → KeepsItems now' (add_expr es p.tree))
-      → Takes texts source c d t → t.kind ≡ closer h → K → ListsOn texts source a d
-      (record { items = now'; end = t.place.end }) h xs ts
-  item_last {d = d} {h = h} {ts = ts} {o = o} {t = t} v n q f k e z = record {
+      → Takes texts source c d t → t.kind ≡ closer h → {last : ℕ} → t.place.end ≡ last → K → ListsOn texts source a d
+      (record { items = now'; end = last }) h xs ts
+  item_last {d = d} {h = h} {ts = ts} {o = o} {t = t} v n q f k e l z = record {
     items = add_expr v.items q.part.tree;
     more = v.more ++ (q.part.tokens ++ (lexeme texts.text t ∷ []));
     keeps = f v.items q.part (v.keeps z) q.keeps;
-    ends = ends_more v.more (ends_more q.part.tokens (ends_one (lexeme texts.text t)));
+    ends = ends_more v.more (ends_more q.part.tokens (ends_at (lexeme texts.text t) l));
     leads = λ s r x. item_read v s n q r (step_to (have o.level q.part (listing h v.items (ts ++ v.more) s))
         (have 7 (bare_part (head_tree h (add_expr v.items q.part.tree))
         ((ts ++ v.more) ++ (q.part.tokens ++ (lexeme texts.text t ∷ [])))) s) k
@@ -131,13 +134,13 @@ module _ {X I : Type 0} (texts : TextOf X) (source : TokensOf I (Result (Token X
   -- with the closing bracket and no further item
   pub items_end : {K : Type 0} {a b c : Reader X I} {now : Items} {h : BracketPurpose} {xs : Exprs} {ts : List Lexeme}
       {t : Token X} (v : ElementsSoFar texts source K a b now h xs ts)
-      → Takes texts source b c t → t.kind ≡ closer h → K → ListsOn texts source a c
-      (record { items = now; end = t.place.end }) h xs ts
-  items_end {c = c} {h = h} {ts = ts} {t = t} v k e z = record {
+      → Takes texts source b c t → t.kind ≡ closer h → {last : ℕ} → t.place.end ≡ last → K → ListsOn texts source a c
+      (record { items = now; end = last }) h xs ts
+  items_end {c = c} {h = h} {ts = ts} {t = t} v k e l z = record {
     items = v.items;
     more = v.more ++ (lexeme texts.text t ∷ []);
     keeps = v.keeps z;
-    ends = ends_more v.more (ends_one (lexeme texts.text t));
+    ends = ends_more v.more (ends_at (lexeme texts.text t) l);
     leads = λ s r x. v.leads s r (step_to (item_due h v.items (ts ++ v.more) s)
         (have 7 (bare_part (head_tree h v.items) ((ts ++ v.more) ++ (lexeme texts.text t ∷ []))) s) k
         (ap (λ y. on y (have 7 (bare_part (head_tree h v.items) ((ts ++ v.more) ++ (lexeme texts.text t ∷ []))) s)
@@ -169,15 +172,32 @@ module _ {X I : Type 0} (texts : TextOf X) (source : TokensOf I (Result (Token X
         o) lv x));
   }
 
+  -- arguments of which none is by name
+  pub passes_items : {a b : Reader X I} {now : Items} {none : Keywords} {last : ℕ} {e : Expr} {ts : List Lexeme}
+      → ListsOn texts source a b (record { items = now; end = last }) (in_call e) no_exprs ts
+      → KeepsKeywords none no_keywords
+      → PassesOn texts source a b (record { items = now; keywords = none; end = last }) e ts
+  passes_items n k = record {
+    items = n.items;
+    arguments = no_keywords;
+    more = n.more;
+    keeps = n.keeps;
+    names = k;
+    ends = n.ends;
+    leads = λ s. n.leads s;
+  }
+
   -- the arguments after an operand, as a call
-  pub called_with : {a b : Reader X I} {l : Listed} {callee made : Operand} (t : Lexeme) (p : Part) → KeepsPart callee p
-      → (n : ListsOn texts source a b l (in_call p.tree) no_exprs (p.tokens ++ (t ∷ [])))
-      → ((es : Exprs) → KeepsItems l.items es → Builds made (λ q. call q p.tree es no_keywords) callee.start l.end)
+  pub called_with : {a b : Reader X I} {l : CallArguments} {callee made : Operand} (t : Lexeme) (p : Part)
+      → KeepsPart callee p
+      → (n : PassesOn texts source a b l p.tree (p.tokens ++ (t ∷ [])))
+      → ((es : Exprs) (ks : KeywordTrees) → KeepsItems l.items es → KeepsKeywords l.keywords ks
+      → Builds made (λ q. call q p.tree es ks) callee.start l.end)
       → OperandGoesOn texts source (λ t p s. item_due (in_call p.tree) no_exprs (p.tokens ++ (t ∷ [])) s) 7 a b
       callee made t p
   called_with t p k n f = record {
-    part = call_part p.tree n.items no_keywords ((p.tokens ++ (t ∷ [])) ++ n.more);
-    keeps = f n.items n.keeps _ (starts_more n.more (starts_more (t ∷ []) k.starts))
+    part = call_part p.tree n.items n.arguments ((p.tokens ++ (t ∷ [])) ++ n.more);
+    keeps = f n.items n.arguments n.keeps n.names _ (starts_more n.more (starts_more (t ∷ []) k.starts))
         (ends_more (p.tokens ++ (t ∷ [])) n.ends);
     begins = first_more n.more (starts_more (t ∷ []) k.starts) ∙ first_more (t ∷ []) k.starts;
     leads = λ s. n.leads s;

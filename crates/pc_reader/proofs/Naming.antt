@@ -10,7 +10,7 @@ use Rattle.pc_token.specs.declared.token.TokenKind.TheVariants as kind
 use Rattle.pc_token.specs.declared.token.Operator.TheVariants as sign
 use Rattle.pc_token.specs.Lexeme.{Lexeme}
 use Rattle.pc_tree.specs.declared.tree.Name.{Name as RustName}
-use Rattle.pc_tree.specs.Tree.{Name, Expr, Exprs, Keywords as KeywordTrees, no_keywords, name_of}
+use Rattle.pc_tree.specs.Tree.{Name, Expr, Exprs, no_exprs, Keywords as KeywordTrees, no_keywords, name_of}
 use Rattle.pc_tree.specs.NamesAlone.{name_of_tree}
 use Rattle.pc_grammar.specs.Grammar.{name_of_token}
 use Rattle.pc_grammar.specs.Machine.{at, transition}
@@ -21,14 +21,16 @@ use Rattle.pc_grammar.specs.Machine.Finishing.{add_keyword, if_plain}
 use Rattle.pc_grammar.specs.Machine.Expressions.{needed_level, begin_keyword, call_part}
 use Rattle.pc_reader.specs.declared.reader.Reader.{Reader}
 use Rattle.pc_reader.specs.declared.operand.Operand.{Operand}
+use Rattle.pc_reader.specs.declared.items.Items.{Items}
 use Rattle.pc_reader.specs.declared.items.Keywords.{Keywords}
+use Rattle.pc_reader.specs.declared.items.Arguments.{Arguments}
 use Rattle.pc_reader.specs.Internal.Brackets.{KeepsKeywords}
 use Rattle.pc_reader.specs.Internal.Operands.{KeepsPart}
 use Rattle.pc_reader.specs.Reading.{lexeme, IsAhead, Came, Onward, Takes, NeedsKind}
-use Rattle.pc_reader.specs.Internal.Expressions.{GivesOperand, GivesName, NamesOn}
-use Rattle.pc_reader.proofs.BracketLoops.{NamesSoFar}
-use Rattle.pc_reader.proofs.Building.{ends_more, ends_one}
-use Rattle.pc_reader.proofs.Listing.{regroup}
+use Rattle.pc_reader.specs.Internal.Expressions.{GivesOperand, GivesName, NamesOn, PassesOn}
+use Rattle.pc_reader.proofs.BracketLoops.{ElementsSoFar, NamesSoFar}
+use Rattle.pc_reader.proofs.Building.{ends_more, ends_at}
+use Rattle.pc_reader.proofs.Listing.{regroup, item_read}
 use Rattle.pc_reader.proofs.Steps.{step_to, not_seen}
 
 -- after a comma and without the closing parenthesis a name is due
@@ -106,13 +108,13 @@ module _ {X I : Type 0} (texts : TextOf X) (source : TokensOf I (Result (Token X
       → (q : GivesOperand texts source (λ s. needed_level s ≡ 0) 0 b c o)
       → ((ks : KeywordTrees) (p : Part) → KeepsKeywords now ks → KeepsPart o p
       → KeepsKeywords now' (add_keyword ks name p.tree))
-      → Takes texts source c d t → t.kind ≡ kind.Operator sign.RightParenthesis
-      → NamesOn texts source a d (record { keywords = now'; end = t.place.end }) e xs no_keywords first ts
-  argument_last {d = d} {name = name} {e = e} {xs = xs} {ts = ts} {o = o} {t = t} v q f h i = record {
+      → Takes texts source c d t → t.kind ≡ kind.Operator sign.RightParenthesis → {last : ℕ} → t.place.end ≡ last
+      → NamesOn texts source a d (record { keywords = now'; end = last }) e xs no_keywords first ts
+  argument_last {d = d} {name = name} {e = e} {xs = xs} {ts = ts} {o = o} {t = t} v q f h i l = record {
     arguments = add_keyword v.arguments name q.part.tree;
     more = v.more ++ (q.part.tokens ++ (lexeme texts.text t ∷ []));
     keeps = f v.arguments q.part v.keeps q.keeps;
-    ends = ends_more v.more (ends_more q.part.tokens (ends_one (lexeme texts.text t)));
+    ends = ends_more v.more (ends_more q.part.tokens (ends_at (lexeme texts.text t) l));
     leads = λ s r x. argument_read v s q r
         (step_to (have o.level q.part (naming e xs v.arguments name (ts ++ v.more) s))
         (have 7 (call_part e xs (add_keyword v.arguments name q.part.tree)
@@ -131,13 +133,13 @@ module _ {X I : Type 0} (texts : TextOf X) (source : TokensOf I (Result (Token X
       → ((ks : KeywordTrees) (p : Part) → KeepsKeywords now ks → KeepsPart o p
       → KeepsKeywords now' (add_keyword ks name p.tree))
       → Takes texts source c d t → t.kind ≡ kind.Operator sign.Comma → Takes texts source d f u
-      → u.kind ≡ kind.Operator sign.RightParenthesis
-      → NamesOn texts source a f (record { keywords = now'; end = u.place.end }) e xs no_keywords first ts
-  arguments_end {f = f} {name = name} {e = e} {xs = xs} {ts = ts} {t = t} {u = u} v q g h i k l = record {
+      → u.kind ≡ kind.Operator sign.RightParenthesis → {last : ℕ} → u.place.end ≡ last
+      → NamesOn texts source a f (record { keywords = now'; end = last }) e xs no_keywords first ts
+  arguments_end {f = f} {name = name} {e = e} {xs = xs} {ts = ts} {t = t} {u = u} v q g h i k l y = record {
     arguments = add_keyword v.arguments name q.part.tree;
     more = (v.more ++ (q.part.tokens ++ (lexeme texts.text t ∷ []))) ++ (lexeme texts.text u ∷ []);
     keeps = g v.arguments q.part v.keeps q.keeps;
-    ends = ends_more (v.more ++ (q.part.tokens ++ (lexeme texts.text t ∷ []))) (ends_one (lexeme texts.text u));
+    ends = ends_more (v.more ++ (q.part.tokens ++ (lexeme texts.text t ∷ []))) (ends_at (lexeme texts.text u) y);
     leads = λ s r x. argument_more v s q h i r
         (step_to (keyword_due e xs (add_keyword v.arguments name q.part.tree)
         (ts ++ (v.more ++ (q.part.tokens ++ (lexeme texts.text t ∷ [])))) s)
@@ -205,3 +207,29 @@ module _ {X I : Type 0} (texts : TextOf X) (source : TokensOf I (Result (Token X
         (v.more ++ (q.part.tokens ++ (lexeme texts.text t ∷ []))) (lexeme texts.text w.token ∷ lexeme texts.text u ∷ [])
         r x)));
   }
+
+  -- arguments of which the last are by name
+  pub passes_names : {a b c d f : Reader X I} {now : Items} {l : Arguments} {e : Expr} {ts : List Lexeme} {o : Operand}
+      {t : Token X} {n : Name} (v : ElementsSoFar texts source (Unit {0}) a b now (in_call e) no_exprs ts)
+      → IsAhead (kind.Operator sign.RightParenthesis) b.ahead ≡ false
+      → (q : GivesOperand texts source (λ s. needed_level s ≡ 0) 0 b c o) → Takes texts source c d t
+      → t.kind ≡ kind.Operator sign.Equal → if_plain q.part.plain (name_of_tree q.part.tree) ≡ Some n
+      → ((us : List Lexeme) → NamesOn texts source d f l e v.items no_keywords n us)
+      → PassesOn texts source a f (record { items = now; keywords = l.keywords; end = l.end }) e ts
+  passes_names {f = f} {e = e} {ts = ts} {o = o} {t = t} {n = n} v m q h i w names =
+      let past = q.part.tokens ++ (lexeme texts.text t ∷ []) in let g = names ((ts ++ v.more) ++ past) in record {
+        items = v.items;
+        arguments = g.arguments;
+        more = (v.more ++ past) ++ g.more;
+        keeps = v.keeps tt;
+        names = g.keeps;
+        ends = ends_more (v.more ++ past) g.ends;
+        leads = λ s r x. item_read texts source v s m q r
+            (step_to (have o.level q.part (listing (in_call e) v.items (ts ++ v.more) s))
+            (operand (naming e v.items no_keywords n ((ts ++ v.more) ++ past) s)) h
+            (keyword_begins o.level e v.items (ts ++ v.more) s q.part n (lexeme texts.text t) t.kind w i) r
+            (g.leads s r (regroup texts.text source.next_gives f
+            (λ z. have 7 (call_part e v.items g.arguments (z ++ g.more)) s) ts v.more past r
+            (regroup texts.text source.next_gives f (λ z. have 7 (call_part e v.items g.arguments z) s) ts
+            (v.more ++ past) g.more r x))));
+      }

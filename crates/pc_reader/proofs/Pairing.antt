@@ -21,7 +21,7 @@ use Rattle.pc_reader.specs.Internal.Operands.{KeepsPart, Builds}
 use Rattle.pc_reader.specs.Reading.{lexeme, IsAhead, Came, Onward, Takes, left_in}
 use Rattle.pc_reader.specs.Internal.Expressions.{GivesOperand}
 use Rattle.pc_reader.proofs.BracketLoops.{EntriesSoFar}
-use Rattle.pc_reader.proofs.Building.{first_more, starts_more, ends_more, ends_one}
+use Rattle.pc_reader.proofs.Building.{first_more, starts_more, ends_more, ends_at}
 use Rattle.pc_reader.proofs.Listing.{key_begins}
 use Rattle.pc_reader.proofs.SameKind.{is_same}
 use Rattle.pc_reader.proofs.Steps.{step_to}
@@ -97,16 +97,16 @@ module _ {X I : Type 0} (texts : TextOf X) (source : TokensOf I (Result (Token X
       → t.kind ≡ kind.Operator sign.Colon → (w : GivesOperand texts source (λ s. needed_level s ≡ 0) 0 d f o')
       → ((es : EntryTrees) (x y : Part) → KeepsEntries now es → KeepsPart o x → KeepsPart o' y
       → KeepsEntries now' (add_entry es x.tree y.tree)) → (h : Takes texts source f g u)
-      → u.kind ≡ kind.Operator sign.RightBrace
-      → made.level ≡ 7 → ((es : EntryTrees) → KeepsEntries now' es → Builds made (λ z. dict z es) start u.place.end)
+      → u.kind ≡ kind.Operator sign.RightBrace → {last : ℕ} → u.place.end ≡ last
+      → made.level ≡ 7 → ((es : EntryTrees) → KeepsEntries now' es → Builds made (λ z. dict z es) start last)
       → left_in source.remaining b < left_in source.remaining a → GivesOperand texts source
       (λ s. IsAhead (kind.Operator sign.LeftBrace) a.ahead ≡ true) 7 a g made
-  entry_last {g = g} {o' = o'} {t = t} {u = u} v n q k e w p h i l m y = record {
+  entry_last {g = g} {o' = o'} {t = t} {u = u} v n q k e w p h i d l m y = record {
     part = bare_part (λ z. dict z (add_entry v.entries q.part.tree w.part.tree))
         ((v.tokens ++ (q.part.tokens ++ (lexeme texts.text t ∷ []))) ++ (w.part.tokens ++ (lexeme texts.text u ∷ [])));
     keeps = m (add_entry v.entries q.part.tree w.part.tree) (p v.entries q.part w.part v.keeps q.keeps w.keeps) _
         (starts_more _ (starts_more _ v.starts)) (ends_more (v.tokens ++ (q.part.tokens ++ (lexeme texts.text t ∷ [])))
-        (ends_more w.part.tokens (ends_one (lexeme texts.text u))));
+        (ends_more w.part.tokens (ends_at (lexeme texts.text u) d)));
     low = omega (arith, l);
     ready = h.ready;
     later = omega (arith, y, q.later, k.later, w.later, h.later);
@@ -133,13 +133,13 @@ module _ {X I : Type 0} (texts : TextOf X) (source : TokensOf I (Result (Token X
   -- the closing brace and no further entry
   pub entries_end : {a b c : Reader X I} {start : ℕ} {now : Entries} {made : Operand} {t : Token X}
       (v : EntriesSoFar texts source a b start now) → (h : Takes texts source b c t)
-      → t.kind ≡ kind.Operator sign.RightBrace
-      → made.level ≡ 7 → ((es : EntryTrees) → KeepsEntries now es → Builds made (λ z. dict z es) start t.place.end)
+      → t.kind ≡ kind.Operator sign.RightBrace → {last : ℕ} → t.place.end ≡ last
+      → made.level ≡ 7 → ((es : EntryTrees) → KeepsEntries now es → Builds made (λ z. dict z es) start last)
       → left_in source.remaining b < left_in source.remaining a → GivesOperand texts source
       (λ s. IsAhead (kind.Operator sign.LeftBrace) a.ahead ≡ true) 7 a c made
-  entries_end {c = c} {t = t} v h i l m y = record {
+  entries_end {c = c} {t = t} v h i d l m y = record {
     part = bare_part (λ z. dict z v.entries) (v.tokens ++ (lexeme texts.text t ∷ []));
-    keeps = m v.entries v.keeps _ (starts_more _ v.starts) (ends_more v.tokens (ends_one (lexeme texts.text t)));
+    keeps = m v.entries v.keeps _ (starts_more _ v.starts) (ends_more v.tokens (ends_at (lexeme texts.text t) d));
     low = omega (arith, l);
     ready = h.ready;
     later = omega (arith, y, h.later);

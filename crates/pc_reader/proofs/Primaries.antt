@@ -22,7 +22,7 @@ use Rattle.pc_reader.specs.Internal.Operands.{KeepsPart, Builds, signs_on, start
 use Rattle.pc_reader.specs.Reading.{lexeme, IsAhead, Came, Takes}
 use Rattle.pc_reader.specs.Internal.Expressions.{GivesOperand, GivesOn, NextIs, Undotted, IsPrimary, ReadsOperand}
 use Rattle.pc_reader.specs.Internal.Expressions.{wrapped_level}
-use Rattle.pc_reader.proofs.Building.{first_more, starts_more, ends_more, ends_one}
+use Rattle.pc_reader.proofs.Building.{first_more, starts_more, ends_more, ends_at}
 use Rattle.pc_reader.proofs.Frames.{tight}
 use Rattle.pc_reader.proofs.Joining.{low_undotted}
 use Rattle.pc_reader.proofs.Signs.{signs_rank_is}
@@ -85,39 +85,30 @@ module _ {X I : Type 0} (texts : TextOf X) (source : TokensOf I (Result (Token X
         (j.leads s x (subst (λ z. Came texts.text source.next_gives d (at (have z j.part s)) x) n.level_is y)));
   }
 
-  -- an operand, and what stands in brackets after it
-  pub index_on : {fits : Stack → Type 0} {a b c d f : Reader X I} {o inner made : Operand} {t u : Token X}
-      (v : GivesOperand texts source fits 7 a b o) → Takes texts source b c t
-      → t.kind ≡ kind.Operator sign.LeftBracket
-      → (q : GivesOperand texts source (λ s. needed_level s ≡ 0) 0 c d inner) → Takes texts source d f u
-      → u.kind ≡ kind.Operator sign.RightBracket
+  -- the key in brackets after an operand
+  pub indexed_with : {a b c : Reader X I} {o inner made : Operand} {u : Token X} {last : ℕ}
+      → (q : GivesOperand texts source (λ s. needed_level s ≡ 0) 0 a b inner) → Takes texts source b c u
+      → u.kind ≡ kind.Operator sign.RightBracket → u.place.end ≡ last
       → made.level ≡ 7 → ((p k : Part) → KeepsPart o p → KeepsPart inner k → Builds made (λ z. index z p.tree k.tree)
-      o.start u.place.end) → GivesOperand texts source fits 7 a f made
-  index_on {f = f} {o = o} {inner = inner} {t = t} {u = u} v h i q k j lv m = record {
-    part = bare_part (λ z. index z v.part.tree q.part.tree) ((v.part.tokens ++ (lexeme texts.text t ∷ []))
-        ++ (q.part.tokens ++ (lexeme texts.text u ∷ [])));
-    keeps = m v.part q.part v.keeps q.keeps _ (starts_more _ (starts_more _ v.keeps.starts))
-        (ends_more (v.part.tokens ++ (lexeme texts.text t ∷ [])) (ends_more q.part.tokens
-        (ends_one (lexeme texts.text u))));
-    low = omega (arith, lv);
+      o.start last)
+      → GivesOn texts source (λ t p s. operand (indexing p.tree (p.tokens ++ (t ∷ [])) s)) 7 a c o made
+  indexed_with {o = o} {inner = inner} {u = u} q k j e lv m = record {
+    level_is = lv;
     ready = k.ready;
-    later = omega (arith, v.later, h.later, q.later, k.later);
-    begins = λ z e. first_more _ (starts_more (lexeme texts.text t ∷ []) v.keeps.starts) ∙ first_more _ v.keeps.starts
-        ∙ v.begins z e;
-    leads = λ s r x y. v.leads s r x (step_to (have o.level v.part s)
-        (operand (indexing v.part.tree (v.part.tokens ++ (lexeme texts.text t ∷ [])) s)) h
-        (index_turn o.level v.part s (lexeme texts.text t) t.kind v.low i) x
-        (q.leads (indexing v.part.tree (v.part.tokens ++ (lexeme texts.text t ∷ [])) s) refl x
-        (step_to (have inner.level q.part (indexing v.part.tree (v.part.tokens ++ (lexeme texts.text t ∷ [])) s))
-        (have 7 (bare_part (λ z. index z v.part.tree q.part.tree) ((v.part.tokens ++ (lexeme texts.text t ∷ []))
-        ++ (q.part.tokens ++ (lexeme texts.text u ∷ [])))) s) k
-        (ap (transition (have inner.level q.part (indexing v.part.tree (v.part.tokens ++ (lexeme texts.text t ∷ [])) s))
-        (lexeme texts.text u)) j) x
-        (subst
-        (λ z. Came texts.text source.next_gives f
-        (at (have z (bare_part (λ z. index z v.part.tree q.part.tree)
-        ((v.part.tokens ++ (lexeme texts.text t ∷ [])) ++ (q.part.tokens ++ (lexeme texts.text u ∷ [])))) s)) x) lv
-        y))));
+    later = omega (arith, q.later, k.later);
+    goes = λ t p kp. record {
+      part = bare_part (λ z. index z p.tree q.part.tree) ((p.tokens ++ (t ∷ []))
+          ++ (q.part.tokens ++ (lexeme texts.text u ∷ [])));
+      keeps = m p q.part kp q.keeps _ (starts_more _ (starts_more (t ∷ []) kp.starts))
+          (ends_more (p.tokens ++ (t ∷ [])) (ends_more q.part.tokens (ends_at (lexeme texts.text u) e)));
+      begins = first_more _ (starts_more (t ∷ []) kp.starts) ∙ first_more (t ∷ []) kp.starts;
+      leads = λ s x y. q.leads (indexing p.tree (p.tokens ++ (t ∷ [])) s) refl x
+          (step_to (have inner.level q.part (indexing p.tree (p.tokens ++ (t ∷ [])) s))
+          (have 7 (bare_part (λ z. index z p.tree q.part.tree) ((p.tokens ++ (t ∷ []))
+          ++ (q.part.tokens ++ (lexeme texts.text u ∷ [])))) s) k
+          (ap (transition (have inner.level q.part (indexing p.tree (p.tokens ++ (t ∷ [])) s))
+          (lexeme texts.text u)) j) x y);
+    };
   }
 
   -- an operand without a sign is one that binds as tightly as is due

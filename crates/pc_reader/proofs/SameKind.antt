@@ -2,10 +2,13 @@
 use Rattle.std.proofs.Common.{◌≡◌, ℕ, ◌-◌, Bool, true, false, List, [], ◌∷◌, get_or, if◌then◌else◌}
 use Rattle.std.proofs.Common.{refl, sym, ap, ◌∙◌, rules}
 use Rattle.std.specs.Prelude.{nat_lt}
-use Rattle.std.proofs.lemmas.Bool.{eqb-true, eq-eqb}
+use Rattle.std.proofs.lemmas.Bool.{eqb-true, eq-eqb, false≢true}
+use denote.Enum.Bare.{same_true}
 use Rattle.pc_token.specs.contracts.token.TokenKindPartialEq.TheImpl as kinds
 use Rattle.pc_token.specs.contracts.token.KeywordPartialEq.TheImpl as keywords
 use Rattle.pc_token.specs.contracts.token.OperatorPartialEq.TheImpl as operators
+use Rattle.pc_token.specs.contracts.token.Keyword.{the_type as word_type}
+use Rattle.pc_token.specs.contracts.token.Operator.{the_type as sign_type}
 use Rattle.pc_token.specs.declared.token.Keyword.{Keyword}
 use Rattle.pc_token.specs.declared.token.Operator.{Operator}
 use Rattle.pc_token.specs.declared.token.TokenKind.{TokenKind}
@@ -73,10 +76,10 @@ told true a b f g = sym (is_same a b (f refl))
 told false a b f g = sym (not_same a b (λ e. cc (g e)))
 
 equal_words : (a b : Keyword) → (keywords.ghosts).eq a b ≡ true → a ≡ b
-equal_words a b h = search rules
+equal_words a b h = same_true word_type (search rules) a b h
 
 equal_signs : (a b : Operator) → (operators.ghosts).eq a b ≡ true → a ≡ b
-equal_signs a b h = search rules
+equal_signs a b h = same_true sign_type (search rules) a b h
 
 equal_kinds : (a b : TokenKind) → (kinds.ghosts).eq a b ≡ true → a ≡ b
 equal_kinds (kind.Keyword v) (kind.Keyword w) h = ap (λ z. kind.Keyword z) (equal_words v w h)
@@ -88,7 +91,7 @@ equal_kinds kind.Newline kind.Newline h = refl
 equal_kinds kind.Indent kind.Indent h = refl
 equal_kinds kind.Dedent kind.Dedent h = refl
 equal_kinds kind.End kind.End h = refl
-equal_kinds _ _ h = cc
+equal_kinds _ _ h = absurd (false≢true h)
 
 own_kind : (a : TokenKind) → (kinds.ghosts).eq a a ≡ true
 own_kind a = search rules

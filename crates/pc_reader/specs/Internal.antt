@@ -3,6 +3,7 @@ pub mod Brackets
 pub mod Literals
 pub mod Expressions
 pub mod Links
+pub mod NoneTests
 pub mod Operands
 pub mod StatesAhead
 pub mod FixedWords

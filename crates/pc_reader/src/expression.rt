@@ -8,13 +8,15 @@ ghost use Rattle.pc_token.specs.declared.token.Operator.TheVariants as sign;
 ghost use Rattle.pc_tree.specs.Tree.{no_exprs};
 ghost use Rattle.pc_grammar.specs.Machine.Kinds.{operand_start};
 ghost use Rattle.pc_grammar.specs.Machine.Expressions.{needed_level};
-ghost use Rattle.pc_grammar.specs.Machine.States.{item_due, in_call};
+ghost use Rattle.pc_grammar.specs.Machine.States.{item_due, in_call, indexing, operand as operand_due};
 ghost use Rattle.pc_reader.specs.Reading.{IsReady, IsAhead, lexeme};
 ghost use Rattle.pc_reader.specs.Internal.Expressions.{NextIs, Over, Undotted, IsPrimary, IsSingle, IsValue};
 ghost use Rattle.pc_reader.specs.Internal.Expressions.{is_value_start, ReadsOperand, ReadsItems};
-ghost use Rattle.pc_reader.specs.Internal.Expressions.{ReadsKeywords, ReadsOn};
+ghost use Rattle.pc_reader.specs.Internal.Expressions.{ReadsArguments, ReadsKeywords, ReadsOn};
 
-use crate::items::{Arguments, Entries, Items, Keywords, Listed, called, dict, list, tuple};
+use crate::items::{
+    Arguments, CallArguments, Entries, Items, Keywords, Listed, called, dict, list, tuple,
+};
 use crate::name::{characters, digits, named};
 use crate::operand::{Operand, Prefix, grouped, indexed, join, node, plain_name, wrap};
 use crate::operators::wrap_all;
@@ -135,11 +137,11 @@ impl<X: AsStr + Drop, I: Iterator<Item = Result<Token<X>, Fault>> + Drop> Reader
         ensures undotted { IfOk result (λ o. NextIs (Undotted o.level) self.new.ahead) }
     {
         if level <= 2 && self.sees(TokenKind::Keyword(Keyword::Not)) {
-            let first = self.take()?;
+            let first = self.take_place()?;
             let signs = self.signs(alloc, Prefix::Not)?;
             let operand = self.operators(alloc, 2)?;
             let inner = wrap_all(alloc, Prefix::Not, signs, operand)?;
-            return wrap(alloc, Prefix::Not, first.place.start, inner);
+            return wrap(alloc, Prefix::Not, first.start, inner);
         }
         let signs = self.signs(alloc, Prefix::Minus)?;
         let operand = self.postfix(alloc)?;
@@ -158,20 +160,31 @@ impl<X: AsStr + Drop, I: Iterator<Item = Result<Token<X>, Fault>> + Drop> Reader
         let mut operand = self.atom(alloc)?;
         loop {
             if self.sees(TokenKind::Operator(Operator::Dot)) {
-                self.take()?;
+                self.skip()?;
                 operand = self.member(alloc, operand)?;
             } else if self.sees(TokenKind::Operator(Operator::LeftBracket)) {
-                self.take()?;
-                let key = self.operators(alloc, 0)?;
-                let close = self.expect(TokenKind::Operator(Operator::RightBracket))?;
-                operand = indexed(alloc, operand, key, close.place.end)?;
+                self.skip()?;
+                operand = self.index(alloc, operand)?;
             } else if self.sees(TokenKind::Operator(Operator::LeftParenthesis)) {
-                self.take()?;
+                self.skip()?;
                 operand = self.call(alloc, operand)?;
             } else {
                 return Ok(operand);
             }
         }
+    }
+
+    /// Reads the key of an operand, from after its `[` to its `]`.
+    #[cycle(expressions)]
+    fn index(&mut self, alloc: Global, operand: Operand) -> Result<Operand, Fault>
+        requires ready { IsReady I.can_next I.remaining self.old }
+        requires depth { operand.depth ≤ 65 }
+        ensures { ReadsOn X.AsStr I.Iterator
+            (λ t p s. operand_due (indexing p.tree (p.tokens ++ (t ∷ [])) s)) 7 self.old self.new operand result }
+    {
+        let key = self.operators(alloc, 0)?;
+        let close = self.expect_place(TokenKind::Operator(Operator::RightBracket))?;
+        indexed(alloc, operand, key, close.end)
     }
 
     /// Reads a form with brackets, or a single token.
@@ -186,13 +199,13 @@ impl<X: AsStr + Drop, I: Iterator<Item = Result<Token<X>, Fault>> + Drop> Reader
             return self.group(alloc);
         }
         if self.sees(TokenKind::Operator(Operator::LeftBracket)) {
-            let open = self.take()?;
+            let open = self.take_place()?;
             let Listed { items, end } = self.items(
                 alloc,
                 Items::new(alloc),
                 Operator::RightBracket,
             )?;
-            return Ok(list(alloc, items, open.place.start, end));
+            return Ok(list(alloc, items, open.start, end));
         }
         if self.sees(TokenKind::Operator(Operator::LeftBrace)) {
             return self.dict(alloc);
@@ -208,21 +221,21 @@ impl<X: AsStr + Drop, I: Iterator<Item = Result<Token<X>, Fault>> + Drop> Reader
             (λ s. IsAhead (kind.Operator sign.LeftParenthesis) self.old.ahead ≡ true) 7 self.old self.new result }
         ensures level { IfOk result (λ o. o.level ≡ 7) }
     {
-        let open = self.take()?;
+        let open = self.take_place()?;
         if self.sees(TokenKind::Operator(Operator::RightParenthesis)) {
-            let close = self.take()?;
-            return Ok(tuple(alloc, Items::new(alloc), open.place.start, close.place.end));
+            let close = self.take_place()?;
+            return Ok(tuple(alloc, Items::new(alloc), open.start, close.end));
         }
         let first = self.operators(alloc, 0)?;
         if self.sees(TokenKind::Operator(Operator::RightParenthesis)) {
-            let close = self.take()?;
-            return Ok(grouped(first, open.place.start, close.place.end));
+            let close = self.take_place()?;
+            return Ok(grouped(first, open.start, close.end));
         }
-        self.expect(TokenKind::Operator(Operator::Comma))?;
+        self.expect_place(TokenKind::Operator(Operator::Comma))?;
         let mut some = Items::new(alloc);
         some.push(first)?;
         let Listed { items, end } = self.items(alloc, some, Operator::RightParenthesis)?;
-        Ok(tuple(alloc, items, open.place.start, end))
+        Ok(tuple(alloc, items, open.start, end))
     }
 
     /// Reads more items, after `some`, up to and including the closing bracket.
@@ -234,22 +247,22 @@ impl<X: AsStr + Drop, I: Iterator<Item = Result<Token<X>, Fault>> + Drop> Reader
         let mut items = some;
         loop {
             if self.sees(TokenKind::Operator(close)) {
-                let last = self.take()?;
+                let last = self.take_place()?;
                 return Ok(Listed {
                     items,
-                    end: last.place.end,
+                    end: last.end,
                 });
             }
             let item = self.operators(alloc, 0)?;
             items.push(item)?;
             if !self.sees(TokenKind::Operator(Operator::Comma)) {
-                let last = self.expect(TokenKind::Operator(close))?;
+                let last = self.expect_place(TokenKind::Operator(close))?;
                 return Ok(Listed {
                     items,
-                    end: last.place.end,
+                    end: last.end,
                 });
             }
-            self.take()?;
+            self.skip()?;
         }
     }
 
@@ -261,26 +274,26 @@ impl<X: AsStr + Drop, I: Iterator<Item = Result<Token<X>, Fault>> + Drop> Reader
             (λ s. IsAhead (kind.Operator sign.LeftBrace) self.old.ahead ≡ true) 7 self.old self.new result }
         ensures level { IfOk result (λ o. o.level ≡ 7) }
     {
-        let open = self.take()?;
+        let open = self.take_place()?;
         let mut entries = Entries::new(alloc);
         loop {
             if self.sees(TokenKind::Operator(Operator::RightBrace)) {
-                let close = self.take()?;
-                return Ok(dict(alloc, entries, open.place.start, close.place.end));
+                let close = self.take_place()?;
+                return Ok(dict(alloc, entries, open.start, close.end));
             }
             let key = self.operators(alloc, 0)?;
-            self.expect(TokenKind::Operator(Operator::Colon))?;
+            self.expect_place(TokenKind::Operator(Operator::Colon))?;
             let value = self.operators(alloc, 0)?;
             entries.push(key, value)?;
             if !self.sees(TokenKind::Operator(Operator::Comma)) {
-                let close = self.expect(TokenKind::Operator(Operator::RightBrace))?;
-                return Ok(dict(alloc, entries, open.place.start, close.place.end));
+                let close = self.expect_place(TokenKind::Operator(Operator::RightBrace))?;
+                return Ok(dict(alloc, entries, open.start, close.end));
             }
-            self.take()?;
+            self.skip()?;
         }
     }
 
-    /// Reads the arguments of a call, from after its `(` to its `)`: positional ones, then those by name.
+    /// Reads the arguments of a call, from after its `(` to its `)`, and returns the call.
     #[cycle(expressions)]
     fn call(&mut self, alloc: Global, callee: Operand) -> Result<Operand, Fault>
         requires ready { IsReady I.can_next I.remaining self.old }
@@ -288,27 +301,53 @@ impl<X: AsStr + Drop, I: Iterator<Item = Result<Token<X>, Fault>> + Drop> Reader
         ensures { ReadsOn X.AsStr I.Iterator
             (λ t p s. item_due (in_call p.tree) no_exprs (p.tokens ++ (t ∷ [])) s) 7 self.old self.new callee result }
     {
+        let CallArguments {
+            items,
+            keywords,
+            end,
+        } = self.arguments(alloc)?;
+        called(alloc, callee, items, keywords, end)
+    }
+
+    /// Reads the arguments of a call, from after its `(` to its `)`: positional ones, then those by name.
+    #[cycle(expressions)]
+    fn arguments(&mut self, alloc: Global) -> Result<CallArguments, Fault>
+        requires { IsReady I.can_next I.remaining self.old }
+        ensures { ReadsArguments X.AsStr I.Iterator self.old self.new result }
+    {
         let mut items = Items::new(alloc);
         loop {
             if self.sees(TokenKind::Operator(Operator::RightParenthesis)) {
-                let close = self.take()?;
-                return called(alloc, callee, items, Keywords::new(alloc), close.place.end);
+                let close = self.take_place()?;
+                return Ok(CallArguments {
+                    items,
+                    keywords: Keywords::new(alloc),
+                    end: close.end,
+                });
             }
             let item = self.operators(alloc, 0)?;
             if self.sees(TokenKind::Operator(Operator::Equal)) {
                 let Some(name) = plain_name(item) else {
                     return Err(self.misfit());
                 };
-                self.take()?;
+                self.skip()?;
                 let Arguments { keywords, end } = self.keywords(alloc, name)?;
-                return called(alloc, callee, items, keywords, end);
+                return Ok(CallArguments {
+                    items,
+                    keywords,
+                    end,
+                });
             }
             items.push(item)?;
             if !self.sees(TokenKind::Operator(Operator::Comma)) {
-                let close = self.expect(TokenKind::Operator(Operator::RightParenthesis))?;
-                return called(alloc, callee, items, Keywords::new(alloc), close.place.end);
+                let close = self.expect_place(TokenKind::Operator(Operator::RightParenthesis))?;
+                return Ok(CallArguments {
+                    items,
+                    keywords: Keywords::new(alloc),
+                    end: close.end,
+                });
             }
-            self.take()?;
+            self.skip()?;
         }
     }
 
@@ -324,22 +363,22 @@ impl<X: AsStr + Drop, I: Iterator<Item = Result<Token<X>, Fault>> + Drop> Reader
             let value = self.operators(alloc, 0)?;
             keywords.push(name, value)?;
             if !self.sees(TokenKind::Operator(Operator::Comma)) {
-                let close = self.expect(TokenKind::Operator(Operator::RightParenthesis))?;
+                let close = self.expect_place(TokenKind::Operator(Operator::RightParenthesis))?;
                 return Ok(Arguments {
                     keywords,
-                    end: close.place.end,
+                    end: close.end,
                 });
             }
-            self.take()?;
+            self.skip()?;
             if self.sees(TokenKind::Operator(Operator::RightParenthesis)) {
-                let close = self.take()?;
+                let close = self.take_place()?;
                 return Ok(Arguments {
                     keywords,
-                    end: close.place.end,
+                    end: close.end,
                 });
             }
             name = self.name(alloc)?;
-            self.expect(TokenKind::Operator(Operator::Equal))?;
+            self.expect_place(TokenKind::Operator(Operator::Equal))?;
         }
     }
 }

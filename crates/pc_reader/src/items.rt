@@ -49,6 +49,14 @@ pub(crate) struct Arguments {
     pub end: usize,
 }
 
+/// The arguments of a call, positional ones and those by name, and the byte where its closing parenthesis ends.
+#[derive(Drop)]
+pub(crate) struct CallArguments {
+    pub items: Items,
+    pub keywords: Keywords,
+    pub end: usize,
+}
+
 impl Items {
     /// Creates an empty list.
     pub(crate) fn new(alloc: Global) -> Items

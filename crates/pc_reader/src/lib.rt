@@ -8,8 +8,10 @@ mod items;
 mod link;
 mod literal;
 mod name;
+mod none_tests;
 mod operand;
 mod operators;
+mod places;
 mod reader;
 
 pub use operand::{Operand, deeper, depth_above, plain_name};

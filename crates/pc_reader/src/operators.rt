@@ -11,6 +11,7 @@ ghost use Rattle.pc_reader.specs.Internal.Expressions.{NextIs, Over, HasLink, Re
 ghost use Rattle.pc_reader.specs.Internal.Expressions.{wrapped_level};
 
 use crate::link::{Link, link_of};
+use crate::none_tests::NoneTest;
 use crate::operand::{Infix, Operand, Prefix, member, none_test, wrap};
 use crate::reader::Reader;
 use pc_source::Fault;
@@ -73,11 +74,11 @@ impl<X: AsStr + Drop, I: Iterator<Item = Result<Token<X>, Fault>> + Drop> Reader
         requires { IsReady I.can_next I.remaining self.old }
         ensures { ReadsInfix X.AsStr I.Iterator (link_view link) self.old self.new result }
     {
-        self.take()?;
+        self.skip()?;
         match link {
             Link::Infix(infix) => Ok(Some(infix)),
             Link::Not => {
-                self.expect(TokenKind::Keyword(Keyword::In))?;
+                self.expect_place(TokenKind::Keyword(Keyword::In))?;
                 Ok(Some(Infix::Comparison(ComparisonOperator::NotIn)))
             }
             Link::Is => Ok(None),
@@ -91,13 +92,8 @@ impl<X: AsStr + Drop, I: Iterator<Item = Result<Token<X>, Fault>> + Drop> Reader
         ensures { ReadsOn X.AsStr I.Iterator
             (λ t p s. identified p (t ∷ []) s) 3 self.old self.new operand result }
     {
-        if self.sees(TokenKind::Keyword(Keyword::Not)) {
-            self.take()?;
-            let none = self.expect(TokenKind::Keyword(Keyword::None))?;
-            return none_test(alloc, operand, true, none.place.end);
-        }
-        let none = self.expect(TokenKind::Keyword(Keyword::None))?;
-        none_test(alloc, operand, false, none.place.end)
+        let NoneTest { negated, end } = self.none()?;
+        none_test(alloc, operand, negated, end)
     }
 
     /// Takes all signs of one kind that are ahead and returns the bytes where they begin.
@@ -110,8 +106,8 @@ impl<X: AsStr + Drop, I: Iterator<Item = Result<Token<X>, Fault>> + Drop> Reader
         let kind = prefix.kind();
         let mut signs = Vec::new(alloc);
         while self.sees(kind) {
-            let sign = self.take()?;
-            signs.push(sign.place.start)?;
+            let sign = self.take_place()?;
+            signs.push(sign.start)?;
         }
         Ok(signs)
     }

@@ -69,7 +69,7 @@ joined : (a b c d e f g h i j : List ℕ) → ((a ++ (b ++ (c ++ (d ++ e)))) ++ 
     ≡ (a ++ (b ++ (c ++ (d ++ (e ++ (f ++ (g ++ (h ++ i)))))))) ++ j
 joined a b c d e f g h i j = simp append_assoc
 
--- what was written before, between and after the findings
+-- the head, the findings and the tail, written one after another, are the report as JSON
 pub report_written : (format : Format) (rows : List Row) (before between after : List ℕ)
     → before ≡ codes "{\"dynamic\":" ++ (decimal (dynamic_count rows)
     ++ (codes ",\"errors\":" ++ (decimal (errors_of rows) ++ codes ",\"findings\":[")))
@@ -89,7 +89,7 @@ finding_whole : (flow : Option FlowTexts) (row : Row) → has_float (object (fin
 finding_whole None row = refl
 finding_whole (Some flow) row = refl
 
--- what is printed for the value of a finding
+-- the text printed for the value of a finding is the finding as JSON
 pub finding_printed : (format : Format) (row : Row) (d : Data) (text : List ℕ) → d ≡ finding_data format row
     → (has_float d ≡ false → text ≡ compact_text d) → text ≡ finding_json (shown_flow format row) row
 finding_printed format row d text value printed = printed (ap has_float value
@@ -212,7 +212,7 @@ report_read format rows h dynamic errors =
     ∙ reads d numbers (shallow (tree.items_depth (items_outline (findings_data format rows)))
     (findings_depth format rows)) again
 
--- ---- what is told
+-- ---- findings read from a report
 
 pub told : (flow : Option FlowTexts) (row : Row) → finding_in (object (finding_members flow row)) ≡ Some row.finding
 told None row = ap (option_map (finding row.finding.place)) (code_again row.finding.code)

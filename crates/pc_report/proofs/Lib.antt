@@ -1,13 +1,14 @@
 pub mod CodeOrder
+pub mod Detailed
 pub mod Json
 pub mod Lines
-pub mod OneListing
-pub mod ReadJson
-pub mod ReadText
 pub mod Listed
+pub mod OneListing
 pub mod OneTypeListing
 pub mod Order
 pub mod Placed
+pub mod ReadJson
+pub mod ReadText
 pub mod Smallest
 pub mod TypeOrder
 pub mod TypeTexts

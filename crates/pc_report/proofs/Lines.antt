@@ -3,7 +3,7 @@ use Rattle.std.proofs.Common.{◌≡◌, ℕ, ◌+◌, ◌≤◌, ◌-◌, List,
 use Rattle.std.proofs.lemmas.List.{take-take, drop-take}
 use Rattle.std.proofs.lemmas.List.Sums.{sum_by-take-drop}
 
--- those before one byte and those from it to another one are those before the other
+-- the number counted before a, with that from a up to b, is the number counted before b
 pub counted_on : (p : ℕ → Bool) (s : List ℕ) (a b : ℕ) → a ≤ b
     → count_by p (take a s) + count_by p (take (b - a) (drop a s)) ≡ count_by p (take b s)
 counted_on p s a b h =

@@ -58,7 +58,7 @@ unfolding Here
 flows_more xs b old new has step p = subst (Here xs b p) (sym (step p))
     (here xs b p (is_eq (place_cmp b.now.0 p)) refl (get place_cmp old p) (has p))
 
--- what holds of each of a list, and of one more
+-- P holds of each row of a list with one appended, if it holds of each row and of the appended one
 pub all_more : (P : Row → Type 0) (rows : List Row) (row : Row) → AllByRecursion P rows → P row
     → AllByRecursion P (rows ++ row ∷ [])
 all_more P [] row all one = (one, all)

@@ -64,7 +64,8 @@ before_all : (f g : Finding) (fs : List Finding) → finding_cmp f g ≡ Less
 before_all f g [] h all = tt
 before_all f g (y ∷ fs) h all = (total-law.trans f g y h all.0, before_all f g fs h all.1)
 
-strictly : (fs : List Finding) → IsInOrder fs → IsStrictlySortedBy finding_cmp fs
+-- findings in order are sorted strictly
+pub strictly : (fs : List Finding) → IsInOrder fs → IsStrictlySortedBy finding_cmp fs
 unfolding IsStrictlySortedBy
 strictly [] h = tt
 strictly (f ∷ []) h = (tt, tt)

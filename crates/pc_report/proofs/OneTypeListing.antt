@@ -113,7 +113,7 @@ pub one_text : (rows others : List TypeRow) → map content_of rows ≡ map cont
 one_text rows others e = are_lines rows
     ∙ ap (flat_map (λ (c : RowContent). line_of_content c ++ 10 ∷ [])) e ∙ sym (are_lines others)
 
--- ---- and so is their JSON
+-- ---- the JSON of rows is that of their content
 
 member : Option (List ℕ) → List ℕ
 member None = []

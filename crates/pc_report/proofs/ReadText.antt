@@ -64,7 +64,7 @@ no_feed h = absurd (omega (arith, h))
 no_comma : ¬ (digit_value 44 < 10)
 no_comma h = absurd (omega (arith, h))
 
--- the digits of a number, and what they write
+-- the decimal digits of a number are digits, and their value is the number
 digits : (n : ℕ) → n < 2 ^ 64 → AllDigits 10 (decimal n)
 digits n h = (decimal_is_IsNumeral n h).0.1
 
@@ -152,7 +152,7 @@ module _ (format : Format) (row : Row) (fits : FitsWords row) (plain : HasPlainT
   abbrev code : Code
   code = row.finding.code
 
-  -- what follows the code
+  -- the text of a row after its code: its label, and its flow if it is shown
   abbrev ending : List ℕ
   ending = label_of code ++ flow_text (shown_flow format row)
 

@@ -96,7 +96,7 @@ same_fact d e h = equal_facts (fact_of d) (fact_of e)
 -- ---- entries and what they tell
 
 module _ {X Y : Type 0} (g : X → Y) where
-  -- what some element is mapped to is among what all are mapped to
+  -- the image of an element of a list is among the images of its elements
   pub contains_mapped : (xs : List X) (x : X) (y : Y) → Contains xs x → g x ≡ y → Contains (map g xs) y
   contains_mapped [] x y (k, h, e) is = absurd (omega arith)
   contains_mapped (z ∷ xs) x y (zero, h, e) is = (0, omega arith, ap g e ∙ is)
@@ -104,7 +104,7 @@ module _ {X Y : Type 0} (g : X → Y) where
       let rest = contains_mapped xs x y (k, omega arith, e) is in
       (suc rest.0, omega (arith, rest.1), rest.2)
 
-  -- each of what all are mapped to is what some element is mapped to
+  -- each image of the elements of a list is the image of some element
   pub mapped_from : (xs : List X) (y : Y) → Contains (map g xs) y → (x : X) × Contains xs x × (g x ≡ y)
   mapped_from [] y (k, h, e) = absurd (omega arith)
   mapped_from (z ∷ xs) y (zero, h, e) = (z, (0, omega arith, refl), e)

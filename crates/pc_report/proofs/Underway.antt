@@ -150,7 +150,7 @@ escape_plain b l is none big = rw (sym is, le-ltb 0 l none, le-ltb b 32 big) ref
 
 -- ---- items one after another
 
--- what the first items give, and then one more
+-- the bytes of the first i items, and then those of the next one, are the bytes of the first i + 1 items
 pub one_more : {X : Type 0} (f : X → List ℕ) (xs : List X) (i : ℕ) (d x : X) → i < length xs → x ≡ get_or xs i d
     → flat_map f (take i xs) ++ f x ≡ flat_map f (take (i + 1) xs)
 one_more {X} f xs i d x within is = flat_map_more f [] (take i xs) x ∙ ap (flat_map f) (sym (take_more xs i d within

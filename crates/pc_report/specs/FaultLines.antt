@@ -20,7 +20,7 @@ abbrev pub fault_line : Fault → List ℕ
 fault_line (fault.Refused refusal) = refusal_line refusal
 fault_line fault.OutOfMemory = memory_line
 
--- the fault is still the same, or that of an allocation which failed as a refusal was told
+-- the fault is unchanged, or that of an allocation that failed when the line of a refusal was made
 abbrev pub IsFaultToldOf : (old new : Fault) → Type 0
 IsFaultToldOf (fault.Refused refusal) new = (new ≡ fault.Refused refusal) ⊎ (new ≡ fault.OutOfMemory)
 IsFaultToldOf fault.OutOfMemory new = new ≡ fault.OutOfMemory

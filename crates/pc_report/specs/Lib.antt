@@ -1,3 +1,4 @@
+pub mod Detailed
 pub mod FaultLines
 pub mod Flows
 pub mod Format
@@ -5,8 +6,8 @@ pub mod Json
 pub mod Pieces
 pub mod ReadBack
 pub mod ReadWhole
+pub mod Reading
 pub mod Report
 pub mod TypeListing
 pub mod TypeTexts
 pub mod Writing
-pub mod Reading

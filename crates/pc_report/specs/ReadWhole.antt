@@ -17,7 +17,7 @@ use Rattle.pc_report.specs.Json.{report_object, FitsWords}
 use Rattle.pc_report.specs.ReadBack.{code_of, member_number, finding_in}
 use Rattle.pc_report.specs.Report.{shown_flow, errors_of, dynamic_count, report_text}
 
--- ---- what a report says
+-- ---- the contents of a report
 
 -- the texts of the two types of a flow
 abbrev pub texts_of : FlowTexts → List ℕ × List ℕ
@@ -50,7 +50,7 @@ pub record ReportOfText : Type 0 where
   pub errors : ℕ
   pub dynamic : ℕ
 
--- what a row says as JSON in this format
+-- a row of a report as JSON in this format
 abbrev pub row_of_json : Format → Row → RowOfJson
 row_of_json format row = record {
   finding = row.finding;
@@ -59,7 +59,7 @@ row_of_json format row = record {
   flow = option_map texts_of (shown_flow format row);
 }
 
--- what the rows say as JSON in this format
+-- the rows of a report as JSON in this format
 abbrev pub report_of_json : Format → List Row → ReportOfJson
 report_of_json format rows = record {
   rows = map (row_of_json format) rows;
@@ -68,7 +68,7 @@ report_of_json format rows = record {
   format = format_number format;
 }
 
--- what a row says as text in this format
+-- a row of a report as text in this format
 abbrev pub row_of_text : Format → Row → RowOfText
 row_of_text format row = record {
   line = row.line;
@@ -77,7 +77,7 @@ row_of_text format row = record {
   flow = option_map texts_of (shown_flow format row);
 }
 
--- what the rows say as text in this format
+-- the rows of a report as text in this format
 abbrev pub report_of_text : Format → List Row → ReportOfText
 report_of_text format rows = record {
   rows = map (row_of_text format) rows;
@@ -177,11 +177,11 @@ pub record FitsReport (rows : List Row) : Type 0 where
   pub errors_fit : errors_of rows < 2 ^ 64
   pub dynamic_fit : dynamic_count rows < 2 ^ 64
 
--- a text without a line feed and without `>`, as that of each type
+-- a text without a line feed and without `>`, like the text of each type
 abbrev pub IsPlainText : List ℕ → Type 0
 IsPlainText text = AllByRecursion (λ b. (b ≢ 10) × (b ≢ 62)) text
 
--- the types of a flow, if it is shown, are such texts
+-- the texts of the types of a flow, if it is shown, have no line feed and no `>`
 abbrev pub HasPlainTypes : Option FlowTexts → Type 0
 HasPlainTypes shown = MatchOption shown (Unit {0})
     (λ flow. IsPlainText (rc_str_bytes flow.from) × IsPlainText (rc_str_bytes flow.to))

@@ -16,15 +16,15 @@ use Rattle.pc_report.specs.declared.listing.TypeEntry.{TypeEntry}
 use Rattle.pc_report.specs.declared.listing.TypeRow.{TypeRow}
 use Rattle.pc_report.specs.Flows.{place_cmp}
 
--- what a row tells: a place, what is there, the text of its type, and of a name the text of its current type, if that
--- is another
+-- a fact of a listing: a place, whether an expression or a name is there, the text of its type, and for a name the text
+-- of its current type, if that is another
 pub record TypeFact : Type 0 where
   pub place : Place
   pub kind : TypeKind
   pub type : List ℕ
   pub current : Option (List ℕ)
 
--- what an entry tells
+-- the fact of an entry
 abbrev pub fact_of : TypeEntry → TypeFact
 fact_of e = record {
   place = e.place;
@@ -33,11 +33,11 @@ fact_of e = record {
   current = option_map rc_str_bytes e.current;
 }
 
--- what rows tell, in their order
+-- the facts of rows, in their order
 abbrev pub row_facts : List TypeRow → List TypeFact
 row_facts rows = map (λ row. fact_of row.entry) rows
 
--- the content of a row: what it tells, and the lines and columns of its start and its end
+-- the content of a row: its fact, and the lines and columns of its start and its end
 pub record RowContent : Type 0 where
   pub fact : TypeFact
   pub line : ℕ
@@ -73,7 +73,7 @@ HasPosition source row = (row.line ≡ line_of source row.entry.place.start)
     × (row.end_line ≡ line_of source row.entry.place.end)
     × (row.end_column ≡ column_of source row.entry.place.end)
 
--- the rows tell exactly the facts that satisfy P, in order, none twice
+-- the facts of the rows are exactly those that satisfy P, in order, none twice
 pub record ListsTypes (source : List ℕ) (P : TypeFact → Type 0) (rows : List TypeRow) : Type 0 where
   pub sorted : IsStrictlySortedBy fact_cmp (row_facts rows)
   pub exact : (f : TypeFact) → Contains (row_facts rows) f ↔ P f
@@ -81,7 +81,7 @@ pub record ListsTypes (source : List ℕ) (P : TypeFact → Type 0) (rows : List
 
 -- ---- the smallest place around a byte
 
--- a byte is in a place, or just behind it
+-- a byte is in a place, or just after it
 abbrev pub IsAround : ℕ → Place → Type 0
 IsAround byte place = (place.start ≤ byte) × (byte ≤ place.end)
 
@@ -89,8 +89,8 @@ IsAround byte place = (place.start ≤ byte) × (byte ≤ place.end)
 abbrev pub bytes_in : Place → ℕ
 bytes_in place = place.end - place.start
 
--- the row is the first of those with the smallest place around the byte: each one before it has a longer place, and
--- none behind it has a shorter one
+-- the row is the first of those with the smallest place around the byte: each row before it has a longer place, and
+-- none after it has a shorter one
 pub record IsSmallest (byte : ℕ) (rows : List TypeRow) (row : TypeRow) : Type 0 where
   pub before : List TypeRow
   pub behind : List TypeRow
@@ -101,7 +101,7 @@ pub record IsSmallest (byte : ℕ) (rows : List TypeRow) (row : TypeRow) : Type 
   pub not_shorter : (other : TypeRow) → Contains behind other → IsAround byte other.entry.place
       → bytes_in row.entry.place ≤ bytes_in other.entry.place
 
--- the row found for a byte is the smallest one, and none is found if none is around the byte
+-- the row found for a byte is that with the smallest place around it, or none if no place is around the byte
 abbrev pub IsSmallestAt : ℕ → List TypeRow → Option TypeRow → Type 0
 IsSmallestAt byte rows found =
     MatchOption found ((row : TypeRow) → Contains rows row → ¬ (IsAround byte row.entry.place))

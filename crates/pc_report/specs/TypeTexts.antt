@@ -30,7 +30,7 @@ types_text rows = flat_map (λ row. type_row_text row ++ 10 ∷ []) rows
 
 -- ---- the JSON
 
--- the word for what has a type
+-- the word for the kind of a row: an expression or a name
 abbrev pub kind_text : TypeKind → List ℕ
 kind_text Expression = codes "expression"
 kind_text Name = codes "name"

@@ -13,7 +13,11 @@ use pc_source::Counted;
 use std::io::Write;
 
 /// Writes the first type of a flow, if it is shown.
-fn put_from<W: Write + Drop>(pieces: &mut Pieces, device: &mut Counted<W>, flow: Option<&FlowTexts>)
+pub(crate) fn put_from<W: Write + Drop>(
+    pieces: &mut Pieces,
+    device: &mut Counted<W>,
+    flow: Option<&FlowTexts>,
+)
     ensures { Puts W.contents (from_json (option_map (λ f. f.now) flow.entry)) device.old device.new
         pieces.old pieces.new }
 {
@@ -24,7 +28,11 @@ fn put_from<W: Write + Drop>(pieces: &mut Pieces, device: &mut Counted<W>, flow:
 }
 
 /// Writes the second type of a flow, if it is shown.
-fn put_to<W: Write + Drop>(pieces: &mut Pieces, device: &mut Counted<W>, flow: Option<&FlowTexts>)
+pub(crate) fn put_to<W: Write + Drop>(
+    pieces: &mut Pieces,
+    device: &mut Counted<W>,
+    flow: Option<&FlowTexts>,
+)
     ensures { Puts W.contents (to_json (option_map (λ f. f.now) flow.entry)) device.old device.new
         pieces.old pieces.new }
 {

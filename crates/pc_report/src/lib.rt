@@ -2,6 +2,7 @@
 //! device.
 #![tactic(auto)]
 
+mod detailed_pieces;
 mod fault_lines;
 mod flow;
 mod format;
@@ -22,5 +23,5 @@ pub use format::Format;
 pub use laws::reports_are_read_back;
 pub use listing::{TypeEntry, TypeKind, TypeListing, TypeRow};
 pub use reading::{ReadFault, read_at_most};
-pub use report::{Report, Row};
-pub use writing::WriteFault;
+pub use report::{Report, Row, line_and_column};
+pub use writing::{WriteFault, write_whole};

@@ -63,7 +63,7 @@ pub struct TypeRow {
 }
 
 impl TypeRow {
-    /// Returns whether a byte is in the row's place, or just behind it.
+    /// Returns whether a byte is in the row's place, or just after it.
     fn is_around(&self, byte: usize) -> bool
         ensures { IsTrue result ↔ IsAround byte self.now.entry.place }
     {
@@ -190,7 +190,7 @@ impl TypeListing {
     }
 
     /// Returns the row with the smallest place around a byte, the first one if there are several, or `None` if no place
-    /// is around it. A place is around its own bytes, and around the byte behind it. Own rule of the profile.
+    /// is around it. A place is around its own bytes, and around the byte after it. Own rule of the profile.
     pub fn smallest_at(&self, byte: usize) -> Option<&TypeRow>
         ensures { IsSmallestAt byte self.now (option_map (λ r. r.now) result) }
     {

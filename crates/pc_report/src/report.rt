@@ -194,6 +194,15 @@ pub(crate) fn row_position(source: &[u8], known: RowPosition, byte: usize) -> Ro
     }
 }
 
+/// Returns the line and the column of a byte of a source, both from 1.
+pub fn line_and_column(source: &Source, byte: usize) -> (u64, u64)
+    ensures line { result.0 ≡ line_of source.now byte }
+    ensures column { result.1 ≡ column_of source.now byte }
+{
+    let position = row_position(source.text().as_bytes(), START, byte);
+    (position.line, position.column)
+}
+
 /// Returns the rows of findings, in one walk over the source if they are in order.
 fn rows(
     alloc: Global,

@@ -23,10 +23,7 @@ pub enum WriteFault {
 }
 
 /// Writes bytes, with as many calls as the device needs, and none after one that failed.
-pub(crate) fn write_whole<W: Write + Drop>(
-    device: &mut Counted<W>,
-    bytes: &[u8],
-) -> Result<(), WriteFault>
+pub fn write_whole<W: Write + Drop>(device: &mut Counted<W>, bytes: &[u8]) -> Result<(), WriteFault>
     ensures { IsWritten W.contents bytes.now device.old device.new result }
 {
     if device.write_whole(bytes) {

@@ -58,7 +58,7 @@ pub record SeatWellFormed (bases : Bases) (s : Seat) : Type 0 where
   pub into : AreWellFormed bases s.into
 
 module _ (bases : Bases) where
-  -- ---- what a call comes to
+  -- ---- offers of a call
   plain : {o : CallOffer} → IsWellFormed bases o.gives → SignaturesWellFormed bases o.calls → CallWellFormed bases o
   plain g t = record { gives = g; calls = t }
 
@@ -173,7 +173,7 @@ module _ (bases : Bases) where
   append_calls [] ps h k = k
   append_calls (o ∷ os) ps h k = (h.0, append_calls os ps h.1 k)
 
-  -- ---- what arguments flow into
+  -- ---- types that arguments flow into
   signatures_append : (ss ts : List Signature) → SignaturesWellFormed bases ss → SignaturesWellFormed bases ts
       → SignaturesWellFormed bases (ss ++ ts)
   signatures_append [] ts h k = k

@@ -113,7 +113,7 @@ abbrev mutual
 abbrev pub found_in : (e : Expr) → Labels e → List Finding
 found_in e m = whole e m (found_in_parts e m)
 
--- ---- what is forgotten of the list with types
+-- ---- findings left of the list with types
 
 -- of two lists, one after the other
 -- of these notes these findings are left; a record, by which the lists are read off

@@ -181,7 +181,7 @@ module _ (bases : Bases) where
       cond_both (nat_le (nodes t) node_limit) (clean t) (in_error E26) (λ m. IsWellFormed bases m.type)
       (λ e. (n, r, leb-true (nodes t) node_limit e)) (λ e. any_well_formed bases)
 
-  -- ---- what joins
+  -- ---- joined types
   module _ (o : AreSmaller bases) where
     pub offers_well_formed : (os : List Offer) → OffersWellFormed bases os
         → IsWellFormed bases (offers_label bases os).type

@@ -137,7 +137,7 @@ new_again bs (c ∷ cs) = go (new_again bs cs) (new_again (bs ++ c ∷ []) cs) (
 pub once_again : (cs : List Code) → once (once cs) ≡ once cs
 once_again cs = onto_new [] (once cs) ∙ ap (new_of []) (onto_new [] cs) ∙ new_again [] cs ∙ sym (onto_new [] cs)
 
--- ---- what is among them
+-- ---- codes in a list that has each once
 
 added_has : (bs : List Code) (c d : Code) → has_code (add_code bs c) d
     ≡ (has_code bs d || bytes_eq (text_of d) (text_of c))

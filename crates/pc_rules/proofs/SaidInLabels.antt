@@ -22,7 +22,7 @@ use Rattle.pc_rules.specs.Lawful.{callee_of, keyword_seat, Lawful, LawfulItems, 
 use Rattle.pc_rules.proofs.Saying.{IsPart, part_either, PartSays, CalleeSays, found_at, found_here, own_label}
 use Rattle.pc_rules.proofs.Saying.{name_said, callee_name_said}
 
--- ---- what is found within an expression, its own label aside
+-- ---- findings within an expression, its own label aside
 
 abbrev Within : (e : Expr) → Labels e → Finding → Type 0
 Within (tuple p es) m f = ItemsFind es m.items f

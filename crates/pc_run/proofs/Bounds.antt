@@ -8,13 +8,13 @@ use Rattle.pc_machine.specs.Steps.{StatementEnd}
 use Rattle.pc_machine.specs.Plain.{Progress, After}
 use Rattle.pc_machine.specs.Runs.{plain_parts}
 
--- the further turns of a `while` from here are what is wanted
+-- the result of the further turns of a `while`, under some bound above the fuel
 pub record Above (fuel : ℕ) (e : Expr) (body : Stmts) (w : Progress) (l : After StatementEnd) : Type 0 where
   pub bound : ℕ
   pub room : fuel < bound
   pub is : l ≡ (plain_parts bound).again e body w
 
--- the further turns of a `for` too
+-- the result of the further turns of a `for`, under some bound above the fuel
 pub record Turns (fuel : ℕ) (over : Iteration) (i : ℕ) (name : List ℕ) (body : Stmts) (w : Progress)
     (l : After StatementEnd) : Type 0 where
   pub bound : ℕ

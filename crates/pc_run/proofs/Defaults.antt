@@ -41,7 +41,7 @@ abbrev come_or_cut : Option Value → Step Value
 come_or_cut None w = Ended Cut w
 come_or_cut (Some v) w = Came v w
 
--- what is made where each default has a value, or the run is cut off
+-- the value made, if each default has a value; otherwise the run is cut off
 abbrev pub made_if : {A : Type 0} → Bool → A → Step A
 made_if true a w = Came a w
 made_if false a w = Ended Cut w
@@ -159,7 +159,7 @@ checked b = if b then Gives tt else Stops (Raised TypeError)
 abbrev bound_if : Bool → ClassDef → Class → Step (Unit {0})
 bound_if b c k w = and_then (comes (checked b) w) (bound_class c k)
 
--- what follows the base of a class, and what follows its members
+-- the making of a class after its members, and after its base
 abbrev from_members : ClassDef → Option ℕ → Members → Step (Unit {0})
 from_members c base own w =
     bound_if (defaults_last (class_behind (class_at w.state.classes base) own (length w.state.classes)).fields) c

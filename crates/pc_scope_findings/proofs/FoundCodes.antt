@@ -94,7 +94,7 @@ module _ (g : Owner → FuncDef → List Place) (m : Module) where
       (λ x. to_function g 0 0 m.items p (record { b = b; among = x; found = found }))
       (λ y. to_class g 0 0 m.items p (record { b = b; among = y; found = found }))
 
--- ---- what is found is a finding of the scopes
+-- ---- found codes as findings of the scopes
 
 module _ (m : Module) (f : Finding) where
   is_finding : (c : Code) → f.code ≡ c → f ≡ finding f.place c
@@ -191,7 +191,7 @@ module _ (m : Module) (f : Finding) where
       (λ h3. either unknown_classes (early_names) f h3 (decorators m.imports_dataclass refl)
       (λ h2. (initializers) h2)))
 
-  -- what the walks find is a finding of the scopes
+  -- each finding of the walks is a finding of the scopes
   pub sound : Contains (scope_findings (resolve m) m) f → ScopeFinds m f
   sound h = either (found_in_scopes m) (at_code E30 (unreached_in_defs m.items) ++ name_findings (resolve m) m) f h
       stops
@@ -313,9 +313,9 @@ module _ (m : Module) (f : Finding) where
       (subst (λ ps. Contains ps r.place) (sym (defs_over (λ d. unreached_places d.body) 0 0 m.items))
       (to_bodies (λ o d. unreached_places d.body) m r.body r.place r.of r.first)))
 
--- ---- where names mean what tables say
+-- ---- names by the tables
 
--- what is found by the tables of a module is what its scopes find
+-- the findings by the tables of a module are exactly those of its scopes
 pub found_by : (m : Module) (t : Tables) → AreTables m t → (f : Finding)
     → Contains (scope_findings (meaning_by_tables t) m) f ↔ ScopeFinds m f
 found_by m t are f =

@@ -87,7 +87,7 @@ to_decorated (def_item q f ∷ is) c h = to_decorated is c h
 -- ---- functions and methods
 
 module _ (g : Owner → FuncDef → List Place) where
-  -- what a rule that knows the owner gives for methods, by the numbers of the class and of the first method
+  -- the places that a rule gives for each method and its owner, given the numbers of the class and of the first method
   abbrev pub over_methods : (class method : ℕ) → List Member → List Place
   over_methods c i [] = []
   over_methods c i (field_member f ∷ ms) = over_methods c i ms
@@ -133,7 +133,7 @@ module _ (g : Owner → FuncDef → List Place) where
             (to_method c (suc i) ms p (record { b = r.b; among = rest; found = r.found }))
       ]
 
-  -- what is found in a body is found in a function of the items, or in a method of a class of theirs
+  -- a place found in a body is found in a function of the items, or in a method of one of their classes
   pub body_of : (i c : ℕ) (items : List Item) (p : Place) → Contains (over_bodies i c items) p
       → IsBodyWith (function_bodies i (functions_in items)) p ⊎ IsBodyWith (class_bodies c (classes_in items)) p
   body_of i c [] p h = absurd (none_among p h)

@@ -127,7 +127,7 @@ to_early_is k c (res.Class n) e = grind (arith, nat_tests, e)
 to_early_is k c (res.Builtin b) e = absurd e
 to_early_is k c res.None e = absurd e
 
--- what stands too early among expressions: a name, or a callee that is none
+-- a name among expressions that an initializer uses too early
 pub record IsEarlyAmong (k c : ℕ) (resolve : List ℕ → NameMeaning) (es : List Expr) (p : Place) : Type 0 where
   pub n : Name
   pub named : Contains (filter_map name_of_tree es) n

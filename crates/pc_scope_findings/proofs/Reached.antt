@@ -10,7 +10,7 @@ use Rattle.pc_tree.specs.Tree.{evaluates, while_loop, for_loop, conditional}
 use Rattle.pc_scope_findings.specs.Unreached.{first_token_place, first_places, unreached_places, unreached_in}
 use Rattle.pc_scope_findings.specs.Unreached.{unreached_in_branches}
 
--- what is unreached of the statements after one, by whether it can complete
+-- the unreachable places among the statements after one, given whether it can complete
 abbrev pub behind : Bool → Stmts → List Place
 behind reached rest = if reached then unreached_places rest else first_places rest
 
@@ -28,7 +28,7 @@ first_is p (rust_stmt.While' condition shape body) = refl
 first_is p (rust_stmt.For' target iterable shape body) = refl
 first_is p (rust_stmt.If' shape branches shape' otherwise) = refl
 
--- what is unreached in a statement, by the suites in it
+-- the unreachable places in a statement are those in its branches, and then those in its last suite
 pub unreached_parts : (s : Stmt) → unreached_in s ≡ unreached_in_branches (branches_of_stmt s)
     ++ unreached_places (last_suite s)
 unreached_parts (pass p) = refl

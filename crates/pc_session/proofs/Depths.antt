@@ -451,13 +451,13 @@ sent_of replies bytes shallow spelled = record {
   framed = spelled.framed;
 }
 
--- what a step replies is sent where it is spelled
+-- bytes that spell the replies of a step are the replies as they are sent
 pub sent : (answers : List ℕ → CheckerAnswer → Type 0) (old new : State) (message bytes : List ℕ) (replies : List Data)
     → Step answers old message replies new → AreSpelled replies bytes → AreSent replies bytes
 sent answers old new message bytes replies step spelled =
     sent_of replies bytes (stepped answers old new message replies step) spelled
 
--- what is replied to a message that is not read is sent where it is spelled
+-- bytes that spell the replies to a message that is not read are the replies as they are sent
 pub refused_sent : (old new : State) (bytes : List ℕ) (replies : List Data) → IsUnreadable TooLong old replies new
     → AreSpelled replies bytes → SendsRefusal old bytes new
 refused_sent old new bytes replies refused spelled = record {

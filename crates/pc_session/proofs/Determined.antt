@@ -1,4 +1,4 @@
--- The replies to messages are determined, over a checker that always says the same of a text.
+-- The replies to messages are determined, over a checker whose answers about a text do not contradict each other.
 use Rattle.std.specs.Prelude.{◌⊎◌, codes, option_and_then, is_some}
 use Rattle.std.proofs.Common.{◌≡◌, ℕ, ◌<◌, ◌≤◌, length, Bool, true, false, List, [], ◌∷◌, ◌++◌, Option, None, Some, sym}
 use Rattle.std.proofs.Common.{ap, ap₂, refl, ◌∙◌, subst, inl, inr, ⊎_elim, true≢false, arith}
@@ -163,7 +163,7 @@ one_byte encoding text position (Some c) None a b = absurd (b c a.within a.has)
 one_byte encoding text position (Some c) (Some d) a b = ap Some (last_bytes encoding text position c d a b)
 
 module _ (answers : List ℕ → CheckerAnswer → Type 0) (same : IsDetermined answers) where
-  -- ---- what is said of a text
+  -- ---- diagnostics of a text
 
   one_checked : (agreed : Agreed) (text : Option (List ℕ)) (a b : List Data) → IsChecked answers agreed text a
       → IsChecked answers agreed text b → a ≡ b

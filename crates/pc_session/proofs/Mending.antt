@@ -34,7 +34,7 @@ spoils_by bytes old message None is none = λ other is_too.
     ap (λ m. spoiled_in m old) (sym same) ∙ none
 spoils_by bytes old message (Some document) is some = (message, is, some)
 
--- what the message spoils that the mended bytes are
+-- bytes that are a message once mended spoil the document that the message spoils, if it spoils one alone
 pub spoils : (bytes : List ℕ) (old : State) (message : Data) → IsMended bytes message
     → Spoils bytes old (spoiled_in message old)
 spoils bytes old message is = spoils_by bytes old message (spoiled_in message old) is refl

@@ -1,4 +1,4 @@
--- What comes of a notification about a document in a session that runs.
+-- The step of a session that runs at a notification about a document.
 use Rattle.std.specs.Prelude.{codes, option_map, option_and_then, is_some, false}
 use Rattle.std.proofs.Common.{◌≡◌, ℕ, List, Option, None, Some, sym, ap, ◌∙◌, subst, inl, inr, true≢false, arith}
 use Rattle.serde_json.specs.Data.{Data}
@@ -21,7 +21,7 @@ some_none : {A : Type 0} {x : A} → Some x ≡ None → ⊥
 some_none e = grind arith
 
 module _ (answers : List ℕ → CheckerAnswer → Type 0) where
-  -- what comes of a message is what comes of a notification of its method
+  -- the step at a notification is that of its method
   of_notice : (method uri bytes : List ℕ) (message : Data) (old new : State) (replies : List Data)
       → IsNoticeOf method uri bytes message → Step answers old bytes replies new
       → OnNotification answers (method_named method) old.stage message old replies new

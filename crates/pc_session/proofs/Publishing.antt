@@ -1,4 +1,4 @@
--- What replies leave of what was published before them.
+-- The last publication for an address, after more replies.
 use Rattle.std.specs.List.{AllByRecursion}
 use Rattle.std.specs.Prelude.{fold, find, filter, is_some, bytes_eq, ℤ}
 use Rattle.std.proofs.Common.{◌≡◌, ℕ, Bool, true, false, cond, List, [], ◌∷◌, ◌++◌, map, Option, None, Some, refl, sym}
@@ -28,7 +28,7 @@ pub publishes_is : (uri other : List ℕ) (version : Option ℤ) (diagnostics : 
 publishes_is uri other None diagnostics = refl
 publishes_is uri other (Some version) diagnostics = refl
 
--- what was last published, after one more list
+-- one more publication is the last one for its own address, and leaves that for any other address unchanged
 pub one_more : (uri other : List ℕ) (version : Option ℤ) (diagnostics : List Data) (last : Option Data)
     → published_after uri last (publish_data other version diagnostics)
     ≡ cond (bytes_eq other uri) (Some (publish_data other version diagnostics)) last
@@ -85,7 +85,7 @@ module _ (sends : OpenDocument → Bool) where
         | false ↦ λ e. told_none uri ds none last
       ] (none d)
 
-  -- a document is shown by what is told, whatever was published before
+  -- a document is shown by the publications that no text is known, whatever was published before
   abbrev pub IsTold : List Data → OpenDocument → Type 0
   IsTold replies d = sends d ≡ true → (last : Option Data)
       → fold (published_after d.uri) last replies ≡ Some (unknown_of d)

@@ -1,4 +1,4 @@
--- Items of an array, and what a text of them says.
+-- Items of an array, and the text that they give.
 use Rattle.std.specs.Prelude.{Option, None, Some, codes, option_map, option_and_then, slice_get}
 use Rattle.std.proofs.Common.{◌≡◌, ℕ, ◌+◌, ◌-◌, ◌<◌, ◌≤◌, suc, false, ◌||◌, List, [], ◌∷◌, length, map, drop, get_or}
 use Rattle.std.proofs.Common.{refl, ap, sym, ◌∙◌, arith}
@@ -44,7 +44,7 @@ text_after_is before [] = refl
 text_after_is before (v ∷ vs) = ap (option_and_then whole_text) (last_is (v ∷ vs))
     ∙ mapped before (slice_get (v ∷ vs) (length (v ∷ vs) - 1)) (last_some v vs)
 
--- what the items from a place on say, by the item there
+-- a text is among the items from a place on if it is the item there or among the items after it
 pub has_text_drop : (text : List ℕ) (vs : List Value) (i : ℕ) (v : Value) → i < length vs → v ≡ get_or vs i v
     → has_text text (items_view (drop i vs)) ≡ (is_text text (view v) || has_text text (items_view (drop (i + 1) vs)))
 has_text_drop text vs i v within read =

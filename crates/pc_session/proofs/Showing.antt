@@ -1,4 +1,4 @@
--- What is sent for a message keeps what the client shows in step with the session.
+-- The replies to a message keep what the client shows in step with the session.
 use Rattle.std.specs.List.{AllByRecursion}
 use Rattle.std.specs.Prelude.{fold, bytes_eq, ◌&&◌}
 use Rattle.std.proofs.Common.{◌≡◌, ℕ, Bool, true, false, cond, List, [], ◌∷◌, ◌++◌, map, Option, None, Some, refl, sym}

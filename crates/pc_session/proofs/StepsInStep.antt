@@ -25,7 +25,7 @@ use Rattle.pc_session.proofs.Showing.{refused, kept, closed, unreadable, begins,
 use Rattle.pc_session.proofs.Showing.{locate_passes}
 
 module _ (answers : List ℕ → CheckerAnswer → Type 0) where
-  -- ---- what each message comes to
+  -- ---- the effect of each message
 
   fresh_request : (method : LspMethod) (id message : Data) (sent replies : List Data) (old new : State)
       → old.stage ≡ Fresh → OnFresh method id message old replies new → Holds answers sent old → Holds answers (sent ++ replies) new

@@ -1,4 +1,4 @@
--- Whole sessions: messages and what is replied to them, one after the other. Own rule of the server, over Language Server
+-- Whole sessions: messages and the replies to them, one after the other. Own rule of the server, over Language Server
 -- Protocol 3.17.
 use Rattle.std.specs.Prelude.{◌≡◌, ◌⊎◌, ℕ, Bool, true, false, List, [], ◌∷◌, ◌++◌}
 use Rattle.serde_json.specs.Data.{Data}
@@ -16,18 +16,18 @@ pub record Arrival : Type 0 where
   pub lost : Bool
 
 module _ (answers : List ℕ → CheckerAnswer → Type 0) where
-  -- what is replied to a message for which there is memory, and the session after it: that of a step, or the refusal of
-  -- a message that is too long
+  -- the replies to a message that was not lost, and the session after it: those of a step, or the refusal of a message
+  -- that is too long
   abbrev pub IsReplied : List ℕ → State → List Data → State → Type 0
   IsReplied message old replies new = (IsShort message × Step answers old message replies new)
       ⊎ (IsLong message × IsUnreadable TooLong old replies new)
 
-  -- what is replied to a message, and the session after it; where it was lost the log is told, and no text is known
+  -- the replies to a message, and the session after it; if it was lost, the log says so and no text is known
   abbrev pub Exchange : Bool → List ℕ → State → List Data → State → Type 0
   Exchange true message old replies new = IsTurn (lost_data ∷ []) (forgot old) replies new
   Exchange false message old replies new = IsReplied message old replies new
 
-  -- what is replied to messages, one after the other, and the session after them
+  -- the replies to messages, one after the other, and the session after them
   abbrev pub Exchanges : State → List Arrival → List Data → State → Type 0
   Exchanges old [] replies new = (replies ≡ []) × (new ≡ old)
   Exchanges old (arrival ∷ arrivals) replies new = (first : List Data) × (rest : List Data) × (between : State)
@@ -49,7 +49,7 @@ module _ (answers : List ℕ → CheckerAnswer → Type 0) where
       → Exchanges fresh arrivals replies session → Exchanges fresh arrivals others other
       → (replies ≡ others) × (session ≡ other)
 
-  -- the replies to messages begin with those to the first of them: a session over all is one over these that goes on
+  -- the replies to messages begin with the replies to the first of them; the session goes on from there to the others
   abbrev pub SessionsGoOn : Type 0
   SessionsGoOn = (first later : List Arrival) (old new : State) (replies : List Data)
       → Exchanges old (first ++ later) replies new

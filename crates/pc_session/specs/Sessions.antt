@@ -68,7 +68,7 @@ unknown_of document = publish_data document.uri document.version (unknown_data �
 abbrev pub unknown_all : State → List Data
 unknown_all old = map unknown_of (filter (is_sent old.agreed) old.documents)
 
--- the line for the log where texts are forgotten; none if no document is open
+-- the line for the log when texts are forgotten; none if no document is open
 abbrev pub told_of : List OpenDocument → List Data
 told_of [] = []
 told_of (document ∷ documents) =
@@ -117,7 +117,7 @@ OnClose message old replies new = IsClosed message old replies new
 abbrev pub identifier_or_null : Data → Data
 identifier_or_null id = if is_identifier id then id else null
 
--- a message without a method: a reply of the client is let be, and what is no request gets an error
+-- a message without a method: a reply from the client is ignored, and any other message gets an error
 abbrev pub OnNoMethod : Option Data → Data → State → List Data → State → Type 0
 OnNoMethod None message old replies new = RepliesAlone (refusal_of InvalidRequest null) old replies new
 OnNoMethod (Some id) message old replies new = ((is_reply message ≡ true) × IsLetBe old replies new)
@@ -193,7 +193,7 @@ IsLocated message id old reply = IsLocatedOf message id old reply
     × (reply ≡ refusal_of InvalidParams id))
 
 module _ (answers : List ℕ → CheckerAnswer → Type 0) where
-  -- this is the document of its address from now on, and its diagnostics are published: nothing else changes
+  -- this document is the open one of its address from now on, and its diagnostics are published; nothing else changes
   pub record IsKept (document : OpenDocument) (old : State) (replies : List Data) (new : State) : Type 0 where
     pub published : IsPublished answers old.agreed document replies
     pub new_is : new ≡ with_documents (with_document document old.documents) old
@@ -204,7 +204,7 @@ module _ (answers : List ℕ → CheckerAnswer → Type 0) where
     pub names : uri_in message ≡ Some uri
     pub kept : IsKept (opened_in message uri) old replies new
 
-  -- an open document has the text that the message makes of its text; the version that the message gives is no older one
+  -- an open document gets the text that the message makes of its text; the version that the message gives is not older
   pub record IsChanged (message : Data) (old : State) (replies : List Data) (new : State) : Type 0 where
     pub document : OpenDocument
     pub named : named_document message old ≡ Some document
@@ -216,7 +216,7 @@ module _ (answers : List ℕ → CheckerAnswer → Type 0) where
   OnOpen message old replies new = IsOpened message old replies new
       ⊎ IsUnnamed (codes "didOpen names no document") message old replies new
 
-  -- `didChange`: of an open document, to an older version of one, of one that is not open, or of none
+  -- `didChange` of an open document, also to an older version of it, of a document that is not open, or of none
   abbrev pub OnChange : Data → State → List Data → State → Type 0
   OnChange message old replies new = IsChanged message old replies new ⊎ (IsOutdated message old replies new
       ⊎ (IsNotOpen (codes "didChange names a document that is not open") message old replies new
@@ -235,7 +235,7 @@ module _ (answers : List ℕ → CheckerAnswer → Type 0) where
   IsPulled message id old reply = IsPulledOf message id old reply
       ⊎ ((named_document message old ≡ None) × (reply ≡ refusal_of InvalidParams id))
 
-  -- the reply to `hover` has what is said at the position of the open document that the message names
+  -- the reply to `hover` has the hover text at the position of the open document that the message names
   pub record IsHoveredOf (message id : Data) (old : State) (reply : Data) : Type 0 where
     pub document : OpenDocument
     pub named : named_document message old ≡ Some document
@@ -245,7 +245,7 @@ module _ (answers : List ℕ → CheckerAnswer → Type 0) where
     pub is_told : IsToldAs answers document.python document.text position old.agreed told
     pub replied : reply ≡ result_data id (hover_data told)
 
-  -- the reply to `hover`: what is said at the position, or an error where the message names no open document or no
+  -- the reply to `hover`: the hover text at the position, or an error if the message names no open document or no
   -- position
   abbrev pub IsHovered : Data → Data → State → Data → Type 0
   IsHovered message id old reply = IsHoveredOf message id old reply
@@ -264,20 +264,20 @@ module _ (answers : List ℕ → CheckerAnswer → Type 0) where
   OnRunning Initialize id message old replies new = RepliesAlone (refusal_of InvalidRequest id) old replies new
   OnRunning method id message old replies new = RepliesAlone (refusal_of MethodNotFound id) old replies new
 
-  -- a request, by how far the session has come; after `shutdown` none is valid
+  -- a request, by the stage of the session; after `shutdown` no request is valid
   abbrev pub OnRequest : Stage → LspMethod → Data → Data → State → List Data → State → Type 0
   OnRequest Fresh method id message old replies new = OnFresh method id message old replies new
   OnRequest Running method id message old replies new = OnRunning method id message old replies new
   OnRequest stage method id message old replies new = RepliesAlone (refusal_of InvalidRequest id) old replies new
 
-  -- a notification of a session that runs, by its method; those that are not known are let be
+  -- a notification in a session that runs, by its method; one with an unknown method is ignored
   abbrev pub OnNotice : LspMethod → Data → State → List Data → State → Type 0
   OnNotice DidOpen message old replies new = OnOpen message old replies new
   OnNotice DidChange message old replies new = OnChange message old replies new
   OnNotice DidClose message old replies new = OnClose message old replies new
   OnNotice method message old replies new = IsLetBe old replies new
 
-  -- a notification other than `exit`, by how far the session has come: it is let be unless the session runs
+  -- a notification other than `exit`, by the stage of the session: it is ignored unless the session runs
   abbrev pub OnStage : Stage → LspMethod → Data → State → List Data → State → Type 0
   OnStage Running method message old replies new = OnNotice method message old replies new
   OnStage stage method message old replies new = IsLetBe old replies new
@@ -300,7 +300,7 @@ module _ (answers : List ℕ → CheckerAnswer → Type 0) where
     pub names : method_in message ≡ Some method
     pub answered : OnMethod method (get (codes "id") message) message old replies new
 
-  -- a message that names none
+  -- a message that names no method
   pub record HasNoMethod (message : Data) (old : State) (replies : List Data) (new : State) : Type 0 where
     pub none : method_in message ≡ None
     pub answered : OnNoMethod (get (codes "id") message) message old replies new
@@ -309,25 +309,25 @@ module _ (answers : List ℕ → CheckerAnswer → Type 0) where
   abbrev pub OnMessage : Data → State → List Data → State → Type 0
   OnMessage message old replies new = NamesMethod message old replies new ⊎ HasNoMethod message old replies new
 
-  -- the bytes are a message in JSON, and this comes of it
+  -- the bytes are a message in JSON, with these replies and this session after it
   pub record IsRead (bytes : List ℕ) (old : State) (replies : List Data) (new : State) : Type 0 where
     pub message : Data
     pub utf8 : IsUtf8 bytes
     pub spelled : read bytes ≡ Some message
     pub answered : OnMessage message old replies new
 
-  -- what comes of bytes that are no JSON: a document has a text that is not known, or all have
+  -- bytes that are not JSON: the text of one document is no longer known, or no text is known
   abbrev pub OnSpoiled : Option OpenDocument → State → List Data → State → Type 0
   OnSpoiled None old replies new = IsUnreadable ParseError old replies new
   OnSpoiled (Some document) old replies new = IsKept document old replies new
 
-  -- the bytes are no JSON, and this comes of them
+  -- the bytes are not JSON, with these replies and this session after them
   pub record IsNotRead (bytes : List ℕ) (old : State) (replies : List Data) (new : State) : Type 0 where
     pub no_json : IsUtf8 bytes → read bytes ≡ None
     pub document : Option OpenDocument
     pub spoils : Spoils bytes old document
     pub spoiled : OnSpoiled document old replies new
 
-  -- what is replied to a message, and the session after it
+  -- the replies to a message, and the session after it
   abbrev pub Step : State → List ℕ → List Data → State → Type 0
   Step old message replies new = IsRead message old replies new ⊎ IsNotRead message old replies new

@@ -34,7 +34,7 @@ abbrev pub AreDistinct : List OpenDocument → Type 0
 AreDistinct [] = ⊤
 AreDistinct (document ∷ documents) = (is_open document.uri documents ≡ false) × AreDistinct documents
 
--- the word to the log that a message was lost for want of memory
+-- the warning for the client's log that a message was lost for want of memory
 abbrev pub lost_data : Data
 lost_data = notification_data (codes "window/logMessage")
     (object (member (codes "message")
@@ -60,13 +60,13 @@ module _ (answers : List ℕ → CheckerAnswer → Type 0) where
     pub is_checked : IsChecked answers agreed document.text diagnostics
     pub last : last_publication document.uri sent ≡ Some (publish_data document.uri document.version diagnostics)
 
-  -- the last publication for a document is that of its text and version; or its text is not known since a message was
-  -- lost, as the log was told
+  -- the last publication for a document is that of its text and version; or its text has not been known since a message
+  -- was lost, as the log says
   abbrev pub IsShown : Agreed → List Data → OpenDocument → Type 0
   IsShown agreed sent document = ShowsText agreed sent document
       ⊎ ((document.text ≡ None) × IsLostSince document.uri sent)
 
-  -- the same of a document whose diagnostics are sent: it is Python, and the client does not pull them
+  -- the same, if the diagnostics of the document are sent: it is Python, and the client does not pull them
   abbrev pub IsShownWhereSent : Agreed → List Data → OpenDocument → Type 0
   IsShownWhereSent agreed sent document = is_sent agreed document ≡ true → IsShown agreed sent document
 

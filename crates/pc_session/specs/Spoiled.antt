@@ -1,4 +1,4 @@
--- Messages that are no JSON since an escape stands for half a character. RFC 8259, 7 "Strings"; own rule of the server.
+-- Messages that are not JSON because of an escape for half a character. RFC 8259, 7 "Strings"; own rule of the server.
 use Rattle.std.specs.Prelude.{◌≡◌, ℕ, ◌==◌, ◌||◌, List, [], ◌∷◌, Option, None, Some, codes, option_map, option_and_then}
 use Rattle.std.specs.Prelude.{IsUtf8, if◌then◌else◌}
 use Rattle.serde_json.specs.Data.{Data}
@@ -20,7 +20,7 @@ escape_after Outside byte = if byte == 92 then Backslash else Outside
 escape_after Backslash byte = if byte == 117 then Unicode else Outside
 escape_after Unicode byte = Outside
 
--- the byte; a first digit `d` of an escape becomes `e`, so that no escape stands for half a character
+-- a byte, mended: a first digit `d` of an escape becomes `e`, so that no escape stands for half a character
 abbrev pub mended_byte : Escape → ℕ → ℕ
 mended_byte Outside byte = byte
 mended_byte Backslash byte = byte
@@ -60,17 +60,17 @@ spoiled_by DidChange message old = option_map (changed_part message)
     (option_and_then (λ uri. document_at uri old.documents) (uri_in message))
 spoiled_by method message old = None
 
--- the same of a message, unless it is a request
+-- the document that a message opens or changes, without its text; none if the message is a request
 abbrev pub spoiled_as : Option Data → Data → State → Option OpenDocument
 spoiled_as None message old = option_and_then (λ method. spoiled_by method message old) (method_in message)
 spoiled_as (Some id) message old = None
 
--- the same, in a session that runs
+-- the document that a message opens or changes in a session that runs, without its text; none at any other stage
 abbrev pub spoiled_at : Stage → Data → State → Option OpenDocument
 spoiled_at Running message old = spoiled_as (get (codes "id") message) message old
 spoiled_at stage message old = None
 
--- the document whose text alone a message spoils
+-- the document whose text alone a message spoils, without that text
 abbrev pub spoiled_in : Data → State → Option OpenDocument
 spoiled_in message old = spoiled_at old.stage message old
 
@@ -78,7 +78,7 @@ spoiled_in message old = spoiled_at old.stage message old
 abbrev pub IsMended : List ℕ → Data → Type 0
 IsMended bytes message = IsUtf8 (mended bytes) × (read (mended bytes) ≡ Some message)
 
--- the bytes spoil the text of a document, or of none alone
+-- the bytes spoil the text of this document alone, or that of no document alone if there is none
 abbrev pub Spoils : List ℕ → State → Option OpenDocument → Type 0
 Spoils bytes old None = (message : Data) → IsMended bytes message → spoiled_in message old ≡ None
 Spoils bytes old (Some document) = (message : Data) × IsMended bytes message × (spoiled_in message old ≡ Some document)

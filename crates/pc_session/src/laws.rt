@@ -12,7 +12,7 @@ pub fn sessions_stay_in_step<C: Checker>()
     ensures { (checker : C) → SessionsStayInStep (C.answers checker) }
 {}
 
-/// The law that over a checker that always says the same of a text the replies to messages are determined.
+/// The law that the replies to messages are determined, if the answers about a text do not contradict each other.
 pub fn replies_are_determined<C: Checker>()
     ensures { (checker : C) → IsDetermined (C.answers checker) → RepliesAreDetermined (C.answers checker) }
 {}

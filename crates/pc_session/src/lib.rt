@@ -1,4 +1,4 @@
-//! A session of the Language Server Protocol: what each message changes, and what is replied. No device is used here.
+//! A session of the Language Server Protocol: the effect of each message and the replies to it. No device is used here.
 #![tactic(auto)]
 
 mod laws;

@@ -162,7 +162,7 @@ with_absent t names e = sym (ap (λ b. if b then names else names ++ t ∷ []) e
 
 -- ---- maps
 
--- what a map has at the number of a name, or where it has none
+-- the value of a map at a name is that at the name's number; at a name without a number there is none
 pub held_named : (d : NameMaps) (map k : ℕ) (name : List ℕ) → index_of name d.texts ≡ Some k
     → held_at d.nodes map k ≡ named_at d map name
 unfolding named_at
@@ -172,7 +172,7 @@ pub none_named : (d : NameMaps) (map : ℕ) (name : List ℕ) → index_of name 
 unfolding named_at
 none_named d map name e = sym (ap (number_at d.nodes map) e)
 
--- what a map that has a value at a name has at each name
+-- a value put at a name is the map's value there, and the values at all other names are unchanged
 pub put_named : (old new : NameMaps) (name : List ℕ) (number map value at : ℕ) → IsNumbered old
     → new.texts ≡ with_text old.texts name → index_of name new.texts ≡ Some number → map < length old.nodes
     → IsPut old.nodes map number value new.nodes at → (t : List ℕ)
@@ -203,7 +203,7 @@ put_named old new name number map value at numbered texts is h put t = go (bytes
     go false e = by_number (index_of t new.texts) (λ k f. other e k f (k == number) refl)
         ∙ ap (number_at old.nodes map) (ap (index_of t) texts ∙ other_with t name old.texts e)
 
--- what the maps that were there have
+-- the maps that were there before keep their values at names
 pub kept_named : (old new : NameMaps) (name : List ℕ) (number : ℕ) → IsNumbered old
     → new.texts ≡ with_text old.texts name → index_of name new.texts ≡ Some number → KeepsMaps old.nodes new.nodes
     → KeepsNamed old new

@@ -29,7 +29,7 @@ way_on : (k : ℕ) → way (suc k) ≡ (suc k % 2 == 1) ∷ way (k / 2)
 unfolding way
 way_on k = ap (λ w. (suc k % 2 == 1) ∷ w) (same_way k (k / 2) (k / 2) (half_less k) (omega arith))
 
--- ---- what stands at a number
+-- ---- the value at a number
 
 pub held_first : (nodes : List MapNode) (map : ℕ) → held_at nodes map 0 ≡ (node_at nodes map).held
 unfolding held_at way
@@ -78,7 +78,7 @@ module _ (nodes : List MapNode) (closed : HasAllSuccessors nodes) where
   unfolding held_at
   held_kept more map key h = along_kept more (way key) map h
 
-  -- what is at a new part
+  -- a node appended to the nodes: its own value, and the values of its successors
   module _ (node : MapNode) (within : HasSuccessorsIn nodes node) where
     new_node : node_at (nodes ++ node ∷ []) (length nodes) ≡ node
     new_node = get_or-append_seam nodes node [] empty_node
@@ -117,11 +117,11 @@ module _ (nodes : List MapNode) (closed : HasAllSuccessors nodes) where
 other_zero : (k : ℕ) → 0 < k → (k == 0) ≡ false
 other_zero k h = grind (arith, nat_tests)
 
--- the tests of two numbers of one kind
+-- two numbers of the same parity are equal exactly if their halves are
 halves : (k key : ℕ) → 0 < k → 0 < key → k % 2 ≡ key % 2 → (((k - 1) / 2) == ((key - 1) / 2)) ≡ (k == key)
 halves k key h g e = grind (arith, nat_tests)
 
--- those of two kinds differ
+-- two numbers of different parity differ
 others : (k key : ℕ) → (k % 2 ≡ key % 2 → ⊥) → (k == key) ≡ false
 others k key n = go (k == key) refl
   where
@@ -210,7 +210,7 @@ put_behind old mid closed closed' keeps map key value part node h pos is held th
         (λ x. false≢true (sym f ∙ ap (λ i. i == 1) (sym x) ∙ e))
     go false true e f = differ (λ x. false≢true (sym e ∙ x ∙ f)) (λ x. false≢true (sym e ∙ ap (λ i. i == 1) x ∙ f))
 
--- so where the number is of the one kind, or of the other
+-- a value is put at an odd number by putting it into the odd part of the node, and at an even one likewise
 pub put_odd : (old mid : List MapNode) → HasAllSuccessors old → HasAllSuccessors mid → KeepsMaps old mid
     → (map key value part : ℕ) (node : MapNode) → map < length old → 0 < key → (key % 2 == 1) ≡ true
     → node ≡ node_at old map → IsPut old node.odd ((key - 1) / 2) value mid part

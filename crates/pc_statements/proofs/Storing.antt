@@ -81,7 +81,7 @@ module _ {Ty : Type 0} (offers : List (RustStoreOffer Ty)) where
       → codes ≡ once (store_codes (map (store_offer_with tree) offers))
   codes_all tree i codes le v = (rw (drop_all i offers le) at v) ∙ ap once (codes_meant tree offers)
 
--- ---- what indices and stored values flow into
+-- ---- types that indices and stored values flow into
 
 module _ {Ty : Type 0} (tree : Ty → Tree) (offers : List (RustStoreOffer Ty)) where
   -- the error among codes, each once

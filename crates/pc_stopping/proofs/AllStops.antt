@@ -79,7 +79,7 @@ module _ (m : Module) (f : Finding) where
       → IsStopping m f.place f.code
   stopped c ps into h = let r = in_code c ps f h in subst (IsStopping m f.place) (sym r.0) (into r.1)
 
-  -- what is found of scopes stops a run, and has one of the codes of scopes
+  -- a finding of scopes stops a run, and has one of the codes of scopes
   pub of_scopes : (P : Code → Type 0) → P E01 → P E05 → P E28 → P E29 → P E31 → Contains (found_in_scopes m) f
       → P f.code × IsStopping m f.place f.code
   of_scopes P one two three four five h =
@@ -145,7 +145,7 @@ module _ (m : Module) (f : Finding) where
   complete E31 e h = in_scopes (to_default e h)
   complete _ e h = absurd (none_among f.place h)
 
-  -- what is found is exactly what stops a run
+  -- the findings of scopes and classes are exactly those that stop a run
   pub exactly : Contains (found_in_scopes m ++ found_in_classes m) f ↔ IsStopping m f.place f.code
   exactly = (
     λ h. either (found_in_scopes m) (found_in_classes m) f h

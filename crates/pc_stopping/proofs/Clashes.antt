@@ -44,7 +44,7 @@ method_clash false true h = absurd (true≢false (sym (h refl)))
 method_clash true false h = refl
 method_clash true true h = refl
 
--- what is had by a member's name tells whether it clashes
+-- the holding of a member's name tells whether the member clashes
 clash_told : (hs : List HeldMember) (m : Member) → clashes_with (held_as (name_of_member m).text hs) (is_field m)
     ≡ clashes hs m
 clash_told hs (field_member f) = field_clash (is_among (map held_text hs) f.name.text)

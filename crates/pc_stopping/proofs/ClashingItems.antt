@@ -17,7 +17,7 @@ use Rattle.pc_stopping.specs.declared.holdings.Holdings.{Holdings}
 use Rattle.pc_stopping.specs.Holdings.{HasIn, Keeps}
 use Rattle.pc_stopping.specs.Members.{base_at, names_of_items, HoldsTables, IsTableOf}
 
--- ---- what a name has
+-- ---- members held of a name
 
 nothing_above : (before : List Item) → members_of before None ≡ []
 nothing_above [] = refl
@@ -39,7 +39,7 @@ module _ {S : Type 0} (h : Holdings) (bound : IndexMap (Bor (List ℕ)) ℕ S) (
   unbound n e = subst (λ (t : ℕ). HasIn h t (members_of before (Some n))) (zero_at (at_text bound n) (s.named n ∙ e))
       (s.tables n)
 
--- ---- what a name has after an item
+-- ---- members held of a name after an item
 
 -- an item that binds another name changes nothing
 other_name : (i : Item) (before : List Item) (n : List ℕ) → bytes_eq (name_of_item i).text n ≡ false
@@ -152,7 +152,7 @@ module _ {S : Type 0} (old new : Holdings) (bound now : IndexMap (Bor (List ℕ)
         (table_more n (at_text bound n) refl);
   }
 
--- what clashes in the next item, and in those after it
+-- the clashes in items are those in the first item, and then those in the items after it
 pub items_next : (before : List Item) (i : Item) (is : List Item) → clashing_in before (i ∷ is) ≡ clashing_in before
     (i ∷ []) ++ clashing_in (i ∷ before) is
 items_next before (constant_item p c) is = refl

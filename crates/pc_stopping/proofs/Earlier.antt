@@ -18,7 +18,7 @@ use Rattle.pc_stopping.proofs.Passed.{same_again}
 abbrev pub text_of : RustParam → List ℕ
 text_of p = (name_of_param (param_of p)).text
 
--- ---- whether one of them has a name
+-- ---- a name among the parameters
 
 module _ (params : List RustParam) (name : List ℕ) (i : ℕ) where
   abbrev pub IsOpen : Type 0
@@ -35,7 +35,7 @@ module _ (params : List RustParam) (name : List ℕ) (i : ℕ) where
   pub named_never : length params ≤ i → IsOpen → false ≡ is_among (map text_of params) name
   named_never le v = rw (drop_all i params le) at v
 
--- ---- those bound again, from one on
+-- ---- parameters bound again, from one on
 
 -- the texts before a parameter, and then its own, stand in whatever order
 among_more : (ts bs : List (List ℕ)) (u t : List ℕ) → is_among (u ∷ (ts ++ bs)) t ≡ is_among ((ts ++ u ∷ []) ++ bs) t
@@ -49,7 +49,7 @@ among_more (x ∷ ts) bs u t = turned (bytes_eq u t) (bytes_eq x t) (is_among (t
     turned false y z = refl
 
 module _ (before : List (List ℕ)) (params : List RustParam) (first : List Finding) where
-  -- what is found so far, with what is to be found from a parameter on
+  -- the findings so far, followed by those from a parameter on, are the first findings and those of all parameters
   abbrev pub IsFound : ℕ → List Finding → Type 0
   IsFound i found = found ++ at_code E01 (bound_again (map text_of (take i params) ++ before)
       (map name_of_param (map param_of (drop i params))))

@@ -28,7 +28,7 @@ with_member Field false = Field
 with_member Method false = Method
 with_member Nothing false = Method
 
--- the value of a table that represents a holding, and the reverse; without a value it is nothing
+-- the number of a holding in a table, and the holding of a number; without a number it is nothing
 abbrev pub number_of : Holding → ℕ
 number_of Nothing = 0
 number_of Method = 1

@@ -18,7 +18,7 @@ clashes_with Nothing field = false
 clashes_with Method field = field
 clashes_with Field field = true
 
--- the member as its class has it, or no member
+-- the member as its class has it, or no member if the test holds
 abbrev pub held_unless : Bool → Member → List HeldMember
 held_unless unless m = if unless then [] else held_by m ∷ []
 

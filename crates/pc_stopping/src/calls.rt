@@ -49,28 +49,18 @@ fn find_given(found: &mut Findings, alloc: Global, keys: Keys, e: &Expr) -> Resu
         Expr::Tuple(_, items) => find_given_in_all(found, alloc, keys, items),
         Expr::List(_, items) => find_given_in_all(found, alloc, keys, items),
         Expr::Dict(_, entries) => find_given_in_entries(found, alloc, keys, entries),
-        Expr::Negative(_, operand) | Expr::Not(_, operand) => find_given(
-            found, alloc, keys, operand,
-        ),
-        Expr::Binary(_, _, left, right) => {
+        Expr::Negative(_, operand)
+        | Expr::Not(_, operand)
+        | Expr::IsNone(_, operand)
+        | Expr::IsNotNone(_, operand)
+        | Expr::Attribute(_, operand, _) => find_given(found, alloc, keys, operand),
+        Expr::Binary(_, _, left, right)
+        | Expr::Compare(_, _, left, right)
+        | Expr::And(_, left, right)
+        | Expr::Or(_, left, right)
+        | Expr::Index(_, left, right) => {
             find_given(found, alloc, keys, left)?;
             find_given(found, alloc, keys, right)
-        }
-        Expr::Compare(_, _, left, right) => {
-            find_given(found, alloc, keys, left)?;
-            find_given(found, alloc, keys, right)
-        }
-        Expr::IsNone(_, operand) | Expr::IsNotNone(_, operand) => find_given(
-            found, alloc, keys, operand,
-        ),
-        Expr::And(_, left, right) | Expr::Or(_, left, right) => {
-            find_given(found, alloc, keys, left)?;
-            find_given(found, alloc, keys, right)
-        }
-        Expr::Attribute(_, object, _) => find_given(found, alloc, keys, object),
-        Expr::Index(_, object, key) => {
-            find_given(found, alloc, keys, object)?;
-            find_given(found, alloc, keys, key)
         }
         Expr::Call(_, callee, arguments, by_name) => {
             find_given(found, alloc, keys, callee)?;

@@ -27,16 +27,11 @@ fn find_loose_by(found: &mut Findings, first: Place, kind: &StmtKind) -> Result<
         ≡ found.old.items ++ at_code E05 (loose_in_stmt (stmt_of_kind first kind.now))) }
 {
     match kind {
-        StmtKind::Pass => Ok(()),
+        StmtKind::Pass | StmtKind::Return(_) | StmtKind::Assert(_, _) => Ok(()),
+        StmtKind::Annotated(_, _, _) | StmtKind::Assign(_, _) | StmtKind::Expr(_) => Ok(()),
+        StmtKind::While(_, _) | StmtKind::For(_, _, _) => Ok(()),
         StmtKind::Break => find(found, Code::E05, first),
         StmtKind::Continue => find(found, Code::E05, first),
-        StmtKind::Return(_) => Ok(()),
-        StmtKind::Assert(_, _) => Ok(()),
-        StmtKind::Annotated(_, _, _) => Ok(()),
-        StmtKind::Assign(_, _) => Ok(()),
-        StmtKind::Expr(_) => Ok(()),
-        StmtKind::While(_, _) => Ok(()),
-        StmtKind::For(_, _, _) => Ok(()),
         StmtKind::If(branches, otherwise) => {
             find_loose_in(found, branches)?;
             find_loose(found, otherwise)

@@ -177,6 +177,25 @@ fn find_in_item<'m>(
     }
 }
 
+/// Adds E06 for each member that clashes in a class among these items, given tables that hold nothing yet.
+fn find_in_items<'m>(
+    found: &mut Findings,
+    alloc: Global,
+    keys: Keys,
+    holdings: &mut Holdings<'m>,
+    bound: &mut NameMap<'m, usize>,
+    items: &'m [Item],
+) -> Result<(), OutOfMemory>
+    requires { HoldsTables holdings.old bound.old [] }
+    ensures { OnOk result (found.new.items ≡ found.old.items ++ at_code E06 (clashing_in [] (map item_of items.now))) }
+{
+    for item in items {
+        let table = find_in_item(found, alloc, keys, holdings, bound, item)?;
+        bind_first(bound, item.name().text.as_str(), table)?;
+    }
+    Ok(())
+}
+
 /// Adds E06 for each member of a class that clashes. Members of a base are looked up in its table; no table is copied.
 ///
 /// # Errors
@@ -193,9 +212,12 @@ pub fn find_in_classes(
 {
     let mut holdings = Holdings::new(alloc, keys)?;
     let mut bound = IndexMap::with_hasher(alloc, keys);
-    for item in &program.items {
-        let table = find_in_item(found, alloc, keys, &mut holdings, &bound, item)?;
-        bind_first(&mut bound, item.name().text.as_str(), table)?;
-    }
-    Ok(())
+    find_in_items(
+        found,
+        alloc,
+        keys,
+        &mut holdings,
+        &mut bound,
+        &program.items,
+    )
 }

@@ -110,6 +110,22 @@ fn find_few_again(
     Ok(())
 }
 
+/// Adds E01 for each name that is among those before it or is the `self` of a method, unless it is reserved.
+fn find_named_again(
+    found: &mut Findings,
+    alloc: Global,
+    keys: Keys,
+    is_method: bool,
+    names: &[&Name],
+) -> Result<(), OutOfMemory>
+    ensures { OnOk result (found.new.items
+        ≡ found.old.items ++ at_code E01 (bound_again (self_before is_method) (map name_seen names.now))) }
+{
+    let mut before = IndexSet::with_hasher(alloc, keys);
+    put_self(&mut before, is_method)?;
+    find_bound_again(found, &mut before, names)
+}
+
 /// Adds E01 for each parameter named like an earlier one or like the `self` of a method.
 pub fn find_parameters_again(
     found: &mut Findings,
@@ -127,7 +143,5 @@ pub fn find_parameters_again(
     }
     let mut names = Vec::new(alloc);
     add_params(&mut names, params)?;
-    let mut before = IndexSet::with_hasher(alloc, keys);
-    put_self(&mut before, is_method)?;
-    find_bound_again(found, &mut before, &names)
+    find_named_again(found, alloc, keys, is_method, &names)
 }

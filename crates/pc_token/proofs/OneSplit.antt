@@ -1,9 +1,10 @@
 -- A text has at most one split.
-use Rattle.std.proofs.Common.{◌≡◌, ℕ, ◌<◌, ◌≤◌, List, [], ◌∷◌, ◌++◌, true, false, ◌==◌, Result, length, take, drop}
+use Rattle.std.proofs.Common.{◌≡◌, ℕ, ◌<◌, ◌≤◌, List, [], ◌∷◌, ◌++◌, Bool, true, false, ◌==◌, Result, length, take}
+use Rattle.std.proofs.Common.{drop}
 use Rattle.std.proofs.Common.{get_or, refl, sym, ap, ◌∙◌, subst, inl, inr, arith, length-append}
 use Rattle.std.specs.Char.{is_ascii_digit}
 use Rattle.std.specs.List.{prefix_len}
-use Rattle.std.proofs.lemmas.Bool.{cases_lt}
+use Rattle.std.proofs.lemmas.Bool.{cases_lt, false≢true}
 use Rattle.std.proofs.lemmas.List.{append_cancel_left, take-append-drop, get_or-take, length-take-le}
 use Rattle.std.proofs.lemmas.List.Sums.{prefix_len_stops}
 use Rattle.std.proofs.Math.Seq.{drop-append_seam}
@@ -12,6 +13,7 @@ use Rattle.pc_source.specs.declared.fault.Refusal.{Refusal}
 use Rattle.pc_source.specs.declared.fault.RefusalCode.{RefusalCode}
 use Rattle.pc_source.specs.declared.fault.RefusalCode.TheVariants.{S1, L1, L2, L3, L4, L5, L6, L7, L8}
 use Rattle.pc_token.specs.declared.token.Operator.{Operator}
+use Rattle.pc_token.specs.declared.token.TokenKind.{TokenKind}
 use Rattle.pc_token.specs.declared.token.TokenKind.TheVariants as t
 use Rattle.pc_token.specs.Context.{LexicalContext, line_start}
 use Rattle.pc_token.specs.Faults.{IsFault, IsStray, IsBadString, IsBadDigits, IsBadName, IsBadClosing, IsBadOpening}
@@ -32,6 +34,27 @@ use Rattle.pc_token.proofs.OnePiece.{one_piece, some_piece, text_start, first_of
 use Rattle.pc_token.proofs.OnePiece.{kind_no_gap}
 use Rattle.pc_token.proofs.Starts.{Start, Blank, Quoted, Numeric, Wordy, Signed, start_of, quote_start, digit_start}
 use Rattle.pc_token.proofs.Starts.{kind_start, operator_start, role_by_byte, role_is, some_token}
+
+-- tests by which two starts, or two kinds, are told apart
+abbrev quoted : Start → Bool
+quoted Quoted = true
+quoted _ = false
+
+abbrev numeric : Start → Bool
+numeric Numeric = true
+numeric _ = false
+
+abbrev wordy : Start → Bool
+wordy Wordy = true
+wordy _ = false
+
+abbrev signed : Start → Bool
+signed Signed = true
+signed _ = false
+
+abbrev a_name : TokenKind → Bool
+a_name t.Name = true
+a_name _ = false
 
 module _ (c : LexicalContext) (bytes rest : List ℕ) where
   -- a refusal at this place begins as the piece does
@@ -57,13 +80,13 @@ module _ (c : LexicalContext) (bytes rest : List ℕ) where
   no_string (Lexical t.Str) h (quote, inl none) = none bytes rest refl h.0.token
   no_string (Lexical t.Str) h (quote, inr (inl touches)) = let apart = h.1.0 in cc
   no_string (Lexical t.Str) h (quote, inr (inr tripled)) = let once = h.1.1 in cc
-  no_string sort h f = let same = same_start sort Quoted h (quote_start (get_or (bytes ++ rest) 0 0) f.0) in cc
+  no_string sort h f = false≢true (ap quoted (same_start sort Quoted h (quote_start (get_or (bytes ++ rest) 0 0) f.0)))
 
   no_digit : (sort : Sort) → FitsBySort c sort bytes rest → is_ascii_digit (get_or (bytes ++ rest) 0 0) ≡ true
       → is_bad_number (bytes ++ rest) ≡ true → ⊥
   no_digit (Lexical t.Int) h digit bad = let good = h.1.0 in cc
-  no_digit sort h digit bad = let same = same_start sort Numeric h (digit_start (get_or (bytes ++ rest) 0 0) digit) in
-      cc
+  no_digit sort h digit bad = false≢true (ap numeric
+      (same_start sort Numeric h (digit_start (get_or (bytes ++ rest) 0 0) digit)))
 
   no_point : (sort : Sort) → FitsBySort c sort bytes rest → is_bad_point (bytes ++ rest) ≡ true → ⊥
   no_point (Lexical (t.Operator x)) h point = let good = h.1.1 in cc
@@ -71,7 +94,8 @@ module _ (c : LexicalContext) (bytes rest : List ℕ) where
   no_point (Lexical t.Indent) h point = h.0.token
   no_point (Lexical t.Dedent) h point = h.0.token
   no_point (Lexical t.End) h point = h.0.token
-  no_point sort h point = let same = same_start sort Signed h (ap start_of (point_first (bytes ++ rest) point)) in cc
+  no_point sort h point = false≢true (ap signed
+      (same_start sort Signed h (ap start_of (point_first (bytes ++ rest) point))))
 
   no_digits : (sort : Sort) → FitsBySort c sort bytes rest → IsBadDigits (bytes ++ rest) → ⊥
   no_digits sort h (inl (digit, bad)) = no_digit sort h digit bad
@@ -88,10 +112,10 @@ module _ (c : LexicalContext) (bytes rest : List ℕ) where
   no_name (Lexical t.Name) h (name, more, e, longest, bad) =
       let same = (one_longest t.Name t.Name bytes name rest more e h.0 longest).1 in
       let good : is_bad_name c.last name ≡ false = ap (is_bad_name c.last) (sym same) ∙ h.1 in cc
-  no_name (Lexical kind) h (name, more, e, longest, bad) = let same =
-      (one_longest kind t.Name bytes name rest more e h.0 longest).0 in cc
-  no_name sort h (name, more, e, longest, bad) = let same = same_start sort Wordy h (name_start name more e longest) in
-      cc
+  no_name (Lexical kind) h (name, more, e, longest, bad) = false≢true (ap a_name
+      (one_longest kind t.Name bytes name rest more e h.0 longest).0)
+  no_name sort h (name, more, e, longest, bad) = false≢true (ap wordy
+      (same_start sort Wordy h (name_start name more e longest)))
 
   signed_start : (x : Operator) (more : List ℕ) → bytes ++ rest ≡ operator_text x ++ more
       → start_of (get_or (bytes ++ rest) 0 0) ≡ Signed
@@ -111,7 +135,7 @@ module _ (c : LexicalContext) (bytes rest : List ℕ) where
   no_bracket (Lexical t.Indent) x more h e none = h.0.token
   no_bracket (Lexical t.Dedent) x more h e none = h.0.token
   no_bracket (Lexical t.End) x more h e none = h.0.token
-  no_bracket sort x more h e none = let same = same_start sort Signed h (signed_start x more e) in cc
+  no_bracket sort x more h e none = false≢true (ap signed (same_start sort Signed h (signed_start x more e)))
 
   no_closing : (sort : Sort) → FitsBySort c sort bytes rest → IsBadClosing c (bytes ++ rest) → ⊥
   no_closing sort h (inl (none, some)) = some_piece c sort bytes rest h (omega (arith, length-append bytes rest))
@@ -169,7 +193,7 @@ module _ (c : LexicalContext) (bytes rest : List ℕ) where
       (number_longest (bytes ++ rest) good)).1 in
       let few = h.1.1 in
       omega (arith, ap digit_count same)
-  no_long sort h f = let same = same_start sort Numeric h (digit_start (get_or (bytes ++ rest) 0 0) f.0) in cc
+  no_long sort h f = false≢true (ap numeric (same_start sort Numeric h (digit_start (get_or (bytes ++ rest) 0 0) f.0)))
 
   -- where a piece may stand no refusal stands
   pub no_fault : (sort : Sort) (code : RefusalCode) (k : ℕ) → FitsBySort c sort bytes rest

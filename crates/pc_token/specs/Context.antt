@@ -60,7 +60,7 @@ abbrev pub form_by_kind : TokenKind → List ℕ → List ℕ
 form_by_kind t.Name bytes = name_form bytes
 form_by_kind _ bytes = bytes
 
--- the token that these bytes are at this byte
+-- the token that is made of these bytes, at this byte
 abbrev pub lexeme_at : ℕ → TokenKind → List ℕ → Lexeme
 lexeme_at at kind bytes =
     record {

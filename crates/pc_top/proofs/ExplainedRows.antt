@@ -38,7 +38,7 @@ module _ {X : Type 0} where
   contains_none : (x : X) → Contains [] x → ⊥
   contains_none x (k, h, e) = absurd (omega arith)
 
--- what holds of each holds of one of them
+-- P holds of an element of a list if it holds of each
 holds_of : {X : Type 0} (P : X → Type 0) (xs : List X) (x : X) → AllByRecursion P xs → Contains xs x → P x
 holds_of P [] x all h = absurd (contains_none x h)
 holds_of P (y ∷ ys) x all h = elim (contains_cases y ys x h) [
@@ -59,7 +59,7 @@ listed_place (t ∷ ts) p h = elim (contains_cases t.0 (places_of ts) p h) [
 with_code : (f : Finding) → f.code ≡ A1 → f ≡ finding f.place A1
 with_code f code = λ i. record { place = f.place; code = code i }
 
--- what holds of each finding of rows holds of each row's
+-- P holds of the finding of each row if it holds of each finding of the rows
 each_finding : (P : Finding → Type 0) (rows : List Row) → ((f : Finding) → Contains (row_findings rows) f → P f)
     → AllByRecursion (λ (row : Row). P row.finding) rows
 each_finding P [] h = tt
@@ -68,7 +68,7 @@ each_finding P (row ∷ rows) h = (
   each_finding P rows (λ f c. h f (contains_later row.finding (row_findings rows) f c)),
 )
 
--- what follows of two for each
+-- R holds of each element of a list if it follows from P and Q, and both hold of each
 each_of_both : {X : Type 0} (P Q R : X → Type 0) (xs : List X) → ((x : X) → P x → Q x → R x) → AllByRecursion P xs
     → AllByRecursion Q xs → AllByRecursion R xs
 each_of_both P Q R [] f all others = tt

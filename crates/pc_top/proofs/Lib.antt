@@ -1,4 +1,6 @@
 pub mod BesideErrors
+pub mod DetailsLeft
+pub mod ExplainedFindings
 pub mod ExplainedRows
 pub mod ListingBytes
 pub mod Main
@@ -6,4 +8,5 @@ pub mod ModuleFindings
 pub mod ModuleTypes
 pub mod OneListing
 pub mod OneReport
+pub mod PrintedStream
 pub mod StreamBytes

@@ -95,7 +95,7 @@ module _ (m : Module) (of_scopes : List Finding) (scopes_found : (f : Finding) �
         ]),
       )
 
-  -- what the walk over a module finds, with what is found of scopes and of classes after it, are just its findings
+  -- the findings of the walk over a module, and then those of scopes and classes, are exactly the module's findings
   pub exactly : (notes : List Note) → notes ≡ (module_finds m [] ++ map plain_note of_scopes) ++ map plain_note
       ((class_findings m ++ member_annotations m) ++ override_findings m)
       → (f : Finding) → Contains (findings_of notes) f ↔ IsFinding m f
@@ -128,7 +128,7 @@ pub same_flows : (c : Code) (p : Place) (notes first : List Note) (xs ys : List 
 same_flows c p notes first xs ys is = ap (flow_noted c p) is ∙ flows_stay c p (first ++ map plain_note xs) ys
     ∙ flows_stay c p first xs
 
--- what is computed at each place is the dynamic flow there
+-- notes hold the dynamic flows of a module if the flow noted at each place is the dynamic flow there
 pub told_flows : (m : Module) (notes : List Note) → ((p : Place) → flow_noted A1 p notes ≡ dynamic_flow m p)
     → TellsFlows m notes
 told_flows m notes same = record {

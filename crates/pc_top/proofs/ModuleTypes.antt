@@ -45,7 +45,7 @@ named_facts m labels l =
     (ap (map (noted_fact m)) (names_noted m labels l) ∙ mapped_twice as_noted (noted_fact m) others)
     ∙ sym (map-append (name_fact m) declared others)
 
--- what a walk over a module notes, and the names whose types are by annotations alone, as what a listing tells
+-- the facts of the notes of a walk over a module, and of the names whose types come from annotations alone
 abbrev pub facts_noted : Module → List TypeFact
 facts_noted m = (map (expression_fact m) (types_of (module_notes true m []))
     ++ map (name_fact m) (flat_map (names_declared m) m.items))
@@ -64,7 +64,7 @@ all_noted m named notes first second third of_module of_notes types declared oth
     ∙ (λ i. (map (expression_fact (of_module i)) (types_of (of_notes i)) ++ declared_facts)
     ++ map (noted_fact (of_module i)) (names_of_notes (of_notes i)))
 
--- what is noted of a module is what its labels have
+-- the facts noted by a walk over a module are those under its lawful labels
 noted_facts : (m : Module) (labels : Labelling m) → IsLawful m labels → facts_noted m ≡ facts_under m labels
 noted_facts m labels l =
     append_assoc (map (expression_fact m) (types_of (module_notes true m []))) _ _

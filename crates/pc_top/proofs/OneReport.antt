@@ -22,7 +22,7 @@ texts_same None = refl
 texts_same (Some texts) = refl
 
 module _ (m : Module) where
-  -- what these texts, or none, explain of the flow at a finding
+  -- the texts are those of the flow of a finding with A1; any other finding has none
   abbrev Explains : Finding → Option FlowTexts → Type 0
   Explains f shown = MatchOption shown (¬ (f.code ≡ A1)) (λ texts. (f.code ≡ A1) × AreTextsOfFlow m f.place texts)
 

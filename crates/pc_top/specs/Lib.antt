@@ -1,8 +1,11 @@
 pub mod BesideErrors
+pub mod DetailedBytes
+pub mod DetailedTexts
 pub mod Headline
 pub mod NamesRead
 pub mod NoNeedlessFlow
 pub mod OneListing
 pub mod OneReport
+pub mod PrintedDetails
 pub mod Streaming
 pub mod TypesOfBytes

@@ -28,6 +28,6 @@ declared_name n t = record { place = n.place; declared = t; current = None }
 abbrev pub name_noted : Place × Tree × Option Tree → NameAt
 name_noted n = record { place = n.0; declared = n.1; current = n.2 }
 
--- what a listing tells of a noted name
+-- the fact of a noted name
 abbrev pub noted_fact : Module → Place × Tree × Option Tree → TypeFact
 noted_fact m n = name_fact m (name_noted n)

@@ -43,7 +43,7 @@ abbrev pub writer_fails : {T : Type 0} → Result T CheckFault → Bool
 writer_fails (Err check_fault.Write) = true
 writer_fails _ = false
 
--- P holds for the refusal of a fault that is one
+-- P holds of the refusal, if the fault is one
 abbrev pub WhenRefused : (Refusal → Type 0) → CheckFault → Type 0
 WhenRefused P (check_fault.Refused refusal) = P refusal
 WhenRefused P _ = Unit {0}

@@ -22,7 +22,7 @@ use Rattle.pc_report.specs.TypeTexts.{types_text, types_json}
 use Rattle.pc_top.specs.Headline.{Headline}
 use Rattle.pc_top.specs.Streaming.{AreBytesOf}
 
--- what a listing tells of the type of an expression at a place
+-- the fact of the type of an expression at a place
 abbrev pub expression_fact : Module → Place × Tree → TypeFact
 expression_fact m t = record { place = t.0; kind = Expression; type = type_text m t.1; current = None }
 
@@ -31,7 +31,7 @@ abbrev pub other_text : (declared : List ℕ) → Option (List ℕ) → Option (
 other_text declared None = None
 other_text declared (Some t) = if bytes_eq t declared then None else Some t
 
--- what a listing tells of a bound name: its declared type, and its current type after the binding, if that is another
+-- the fact of a bound name: its declared type, and its current type after the binding, if that is another
 abbrev pub name_fact : Module → NameAt → TypeFact
 name_fact m n = record {
   place = n.place;
@@ -40,18 +40,17 @@ name_fact m n = record {
   current = other_text (type_text m n.declared) (option_map (type_text m) n.current);
 }
 
--- what a listing tells of a module under a labelling: the type of each labelled expression, and the types of each bound
--- name
+-- the facts of a module under a labelling: the type of each labelled expression, and the types of each bound name
 abbrev pub facts_under : (m : Module) → Labelling m → List TypeFact
 facts_under m labels = map (expression_fact m) (map as_pair (types_under m labels))
     ++ map (name_fact m) (names_under m labels)
 
--- a listing tells this of a module: it is so under every lawful labelling, of which there is exactly one
+-- a fact of the types of a module: one under every lawful labelling of it, of which there is exactly one
 abbrev pub IsTypeFact : Module → TypeFact → Type 0
 IsTypeFact m f = (labels : Labelling m) → IsLawful m labels → Contains (facts_under m labels) f
 
--- The guarantees of a listing of types. The bytes spell exactly one module, and the rows tell exactly the types under
--- its lawful labelling.
+-- The guarantees of a listing of types. The bytes spell exactly one module, and the facts of the rows are exactly those
+-- under its lawful labelling.
 pub record ListsTypesOf (bytes : List ℕ) (rows : List TypeRow) : Type 0 where
   pub whole : Module
   pub spelled : IsModuleOf bytes whole

@@ -1,6 +1,7 @@
 //! The findings of a module.
 
-ghost use Rattle.std.specs.Prelude.{◌≡◌, ◌↔◌, ◌++◌, map, Contains, IfOk, OnOk};
+ghost use Rattle.std.specs.Prelude.{◌≡◌, ◌↔◌, ◌++◌, [], map, Contains, IfOk, OnOk};
+ghost use Rattle.pc_tree.specs.declared.code.Code.TheVariants.{A1};
 ghost use Rattle.pc_tree.specs.declared.code.Finding.{Finding as FindingOf};
 ghost use Rattle.pc_tree.specs.Tree.{module_of};
 ghost use Rattle.pc_scope.specs.ModuleScopes.{AreScopes};
@@ -10,6 +11,7 @@ ghost use Rattle.pc_class.specs.Built.{class_findings};
 ghost use Rattle.pc_class.specs.Facts.{classes_of};
 ghost use Rattle.pc_class.specs.Tables.{HasEntries, classes_with};
 ghost use Rattle.pc_notes.specs.Notes.{findings_of, notes_of, plain_note};
+ghost use Rattle.pc_notes.specs.Texts.{AreFlowTexts};
 ghost use Rattle.pc_module_rules.specs.Modules.{IsFinding};
 ghost use Rattle.pc_module_rules.specs.Laws.Flows.{TellsFlows};
 ghost use Rattle.pc_top.specs.BesideErrors.{AreSoundBesideErrors};
@@ -22,10 +24,11 @@ use pc_notes::Notes;
 use pc_overrides::override_findings;
 use pc_scope::{Scopes, scopes};
 use pc_scope_findings::scope_findings;
-use pc_source::OutOfMemory;
-use pc_tree::{Finding, Module};
+use pc_source::{OutOfMemory, Place};
+use pc_tree::{Code, Finding, Module};
 use pc_types::TypeStore;
 use std::alloc::Global;
+use std::rc::RcStr;
 
 /// Adds the findings of the names and of the classes of a module, none of which is a flow.
 fn note_others(
@@ -94,15 +97,56 @@ pub fn findings_by<S: TypeStore>(
 {
     let mut of_classes = Vec::new(alloc);
     let classes = class_table(store, alloc, module, scopes, &mut of_classes)?;
-    findings_with(store, alloc, module, scopes, &classes, &mut of_classes)
+    let found = findings_with(store, alloc, module, scopes, &classes, &mut of_classes);
+    // Proofs take long where a table goes out of scope.
+    drop(classes);
+    found
+}
+
+/// Returns a store without types, for the types of a module.
+pub(crate) fn store_of(
+    alloc: Global,
+    module: &Module,
+    scopes: &Scopes,
+) -> Result<InternStore, OutOfMemory>
+    requires { AreScopes (module_of «module».now) scopes.now }
+    ensures { IfOk result (λ s. s ≡ []) }
+{
+    // The class table makes its own: lending them to both would cost each function of the typing a lifetime.
+    let parents = parents_of(alloc, module, scopes)?;
+    InternStore::new(alloc, module.keys, parents)
+}
+
+/// The findings of a module, and the texts of its dynamic flows.
+#[derive(Drop)]
+pub(crate) struct ModuleFindings {
+    pub(crate) findings: Vec<Finding>,
+    pub(crate) flows: Vec<(Place, RcStr, RcStr)>,
 }
 
 /// The findings of a module, with the scopes and the types that they refer to.
 #[derive(Drop)]
 pub(crate) struct CheckedModule {
-    pub(crate) notes: Notes,
+    notes: Notes,
     scopes: Scopes,
     store: InternStore,
+}
+
+impl CheckedModule {
+    /// Returns the findings, and the texts of the dynamic flows.
+    pub(crate) fn found(
+        &self,
+        alloc: Global,
+        module: &Module,
+    ) -> Result<ModuleFindings, OutOfMemory>
+        ensures findings { IfOk result (λ v. v.findings.items ≡ findings_of (notes_of self.now.notes)) }
+        ensures flows { IfOk result
+            (λ v. AreFlowTexts (module_of «module».now) A1 (notes_of self.now.notes) v.flows.items) }
+    {
+        let flows = self.notes.texts(alloc, module, Code::A1)?;
+        let findings = self.notes.findings(alloc)?;
+        Ok(ModuleFindings { findings, flows })
+    }
 }
 
 /// Returns the findings of a module, over a store that keeps each type once.
@@ -112,9 +156,7 @@ pub(crate) fn findings(alloc: Global, module: &Module) -> Result<CheckedModule, 
     ensures flows { IfOk result (λ v. TellsFlows (module_of «module».now) (notes_of v.notes)) }
 {
     let scopes = scopes(alloc, module)?;
-    // The class table makes its own: lending them to both would cost each function of the typing a lifetime.
-    let parents = parents_of(alloc, module, &scopes)?;
-    let mut store = InternStore::new(alloc, module.keys, parents)?;
+    let mut store = store_of(alloc, module, &scopes)?;
     let notes = findings_by(&mut store, alloc, module, &scopes)?;
     Ok(CheckedModule {
         notes,

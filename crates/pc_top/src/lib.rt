@@ -3,19 +3,23 @@
 #![tactic(auto)]
 
 mod checking;
+mod detailed;
 mod fault;
 mod laws;
 mod names;
+mod printed;
 mod stream;
 mod teardown;
 mod top;
 mod types;
 
 pub use checking::findings_by;
+pub use detailed::{DetailedReport, PlacedDetail, check_explained};
 pub use fault::CheckFault;
 pub use laws::{no_needless_flow, one_listing_of_types, one_report};
 pub use pc_front::read_module;
 pub use pc_report::{Format, Report, Row, TypeEntry, TypeKind, TypeListing, TypeRow};
+pub use printed::explain_stream;
 pub use stream::{FindingCounts, check_stream, types_stream};
 pub use top::check;
 pub use types::{type_at, types_of};

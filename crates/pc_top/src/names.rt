@@ -4,12 +4,12 @@ ghost use Rattle.std.specs.Prelude.{◌≡◌, ◌++◌, ◌∷◌, [], flat_map
 ghost use Rattle.std.specs.Option.{option_map};
 ghost use Rattle.std.specs.Rc.{rc_str_bytes};
 ghost use Rattle.pc_tree.specs.Tree.{ann_of, field_of, func_of, item_of, member_of, name_of, option_ann_of};
-ghost use Rattle.pc_types.specs.Boxed.{tree_of};
 ghost use Rattle.pc_annotations.specs.Annotations.{read_option};
 ghost use Rattle.pc_annotations.specs.Bases.{bases_of};
 ghost use Rattle.pc_annotations.specs.Named.{named_module};
 ghost use Rattle.pc_annotations.specs.Text.{type_text};
-ghost use Rattle.pc_notes.specs.Notes.{AreGivenBound, IsGivenBound, name_shown, names_of_notes, notes_of};
+ghost use Rattle.pc_notes.specs.Notes.{AreGivenBound, IsGivenBound, kept_tree, name_shown, names_of_notes};
+ghost use Rattle.pc_notes.specs.Notes.{notes_of};
 ghost use Rattle.pc_module_rules.specs.NamesOfModules.{field_name, names_declared, names_in_head, names_in_member};
 ghost use Rattle.pc_report.specs.TypeListing.{fact_of};
 ghost use Rattle.pc_top.specs.NamesRead.{IsNameReading, declared_name, module_read, noted_fact};
@@ -191,7 +191,7 @@ fn other_text(
 ) -> Result<Option<RcStr>, OutOfMemory>
     requires { IsGivenBound types.now }
     ensures { IfOk result (λ o. option_map rc_str_bytes o
-        ≡ other_text declared.now (option_map (λ t. type_text (named_module names.now) (tree_of t)) types.now.current)) }
+        ≡ other_text declared.now (option_map (λ t. type_text (named_module names.now) (kept_tree t)) types.now.current)) }
 {
     match &types.current {
         None => Ok(None),

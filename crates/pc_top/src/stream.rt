@@ -1,24 +1,30 @@
 //! The check of a stream.
 
-ghost use Rattle.std.specs.Prelude.{◌≡◌, IfOk, IfErr};
+ghost use Rattle.std.specs.Prelude.{◌≡◌, length, List, IfOk, IfErr};
+ghost use Rattle.pc_source.specs.Answers.{OnRefusal};
 ghost use Rattle.pc_source.specs.Devices.{failures_after};
+ghost use Rattle.pc_source.specs.Within.{IsWithin};
+ghost use Rattle.pc_front.specs.Bytes.{IsRefusalOf};
+ghost use Rattle.pc_report.specs.declared.report.Row.{Row};
+ghost use Rattle.pc_report.specs.Report.{dynamic_count, errors_of};
 ghost use Rattle.pc_report.specs.Writing.{IsWritten};
+ghost use Rattle.pc_top.specs.Headline.{Headline};
 ghost use Rattle.pc_top.specs.Streaming.{IsReported, IsRefusedStream, IsBegun, WhenRefused, WhenWriteFails};
 ghost use Rattle.pc_top.specs.Streaming.{UnlessWriteFails, OnceRead, IsReadThrough, IsWithinStream};
 ghost use Rattle.pc_top.specs.Streaming.{reader_fails, writer_fails, report_bytes};
-ghost use Rattle.pc_top.specs.TypesOfBytes.{IsListed, IsListingBegun, listing_bytes};
+ghost use Rattle.pc_top.specs.TypesOfBytes.{IsListed, IsListingBegun, ListsTypesOf, listing_bytes};
 
 use crate::fault::CheckFault;
 use crate::teardown::Teardown;
 use crate::top::report_of;
 use crate::types::types_of;
 use pc_report::{Format, Report, TypeListing, WriteFault, read_at_most};
-use pc_source::Counted;
+use pc_source::{Counted, Fault};
 use std::alloc::Global;
 use std::io::{Read, Write};
 
 /// The greatest number of bytes read: one more than a source text may have.
-const MOST: usize = 1_048_577;
+pub(crate) const MOST: usize = 1_048_577;
 
 /// The numbers of findings of a report.
 #[derive(Clone, Copy, Debug, PartialEq, Eq)]
@@ -104,6 +110,30 @@ fn write_listing<W: Write + Drop>(
     }
 }
 
+/// A listing of the types of bytes, and the numbers of findings of their report.
+#[derive(Drop)]
+struct CountedListing {
+    listing: TypeListing,
+    counts: FindingCounts,
+}
+
+/// Returns the listing of the types of bytes, and the numbers of findings of their report.
+fn counted_listing(alloc: Global, bytes: &[u8]) -> Result<CountedListing, Fault>
+    ensures lists { IfOk result (λ v. ListsTypesOf bytes.now v.listing) }
+    ensures counted { IfOk result (λ v. (rows : List Row) × Headline bytes.now rows
+        × (v.counts.errors ≡ errors_of rows) × (v.counts.dynamic ≡ dynamic_count rows)) }
+    ensures refused { IfErr result (OnRefusal (IsRefusalOf bytes.now)) }
+    ensures within { IfErr result (IsWithin (length bytes.now)) }
+{
+    let report = report_of(alloc, bytes, Teardown::Free)?;
+    let listing = types_of(alloc, bytes)?;
+    let counts = FindingCounts {
+        errors: report.errors(),
+        dynamic: report.dynamic(),
+    };
+    Ok(CountedListing { listing, counts })
+}
+
 /// Reads bytes to their end like `check_stream`, writes the listing of their types, as JSON or as text, and returns the
 /// numbers of errors and of dynamic places that their report has. The writer is not flushed. Own rule of the profile.
 ///
@@ -130,11 +160,7 @@ pub fn types_stream<R: Read + Drop, W: Write + Drop>(
     ensures write_failures { writer.new.failures ≡ failures_after (writer_fails result) writer.old.failures }
 {
     let given = read_at_most(alloc, reader, MOST)?;
-    let report = report_of(alloc, given.as_slice(), Teardown::Free)?;
-    let listing = types_of(alloc, given.as_slice())?;
-    write_listing(&listing, writer, json)?;
-    Ok(FindingCounts {
-        errors: report.errors(),
-        dynamic: report.dynamic(),
-    })
+    let listed = counted_listing(alloc, given.as_slice())?;
+    write_listing(&listed.listing, writer, json)?;
+    Ok(listed.counts)
 }

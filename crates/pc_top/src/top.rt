@@ -1,18 +1,43 @@
 //! The check of bytes.
 
-ghost use Rattle.std.specs.Prelude.{length, IfOk, IfErr};
+ghost use Rattle.std.specs.Prelude.{◌↔◌, length, Contains, List, IfOk, IfErr};
 ghost use Rattle.pc_source.specs.Answers.{OnRefusal};
 ghost use Rattle.pc_source.specs.Within.{IsWithin};
+ghost use Rattle.pc_tree.specs.declared.code.Code.TheVariants.{A1};
+ghost use Rattle.pc_tree.specs.declared.code.Finding.{Finding as FindingOf};
+ghost use Rattle.pc_tree.specs.Tree.{module_of};
+ghost use Rattle.pc_notes.specs.Notes.{Note};
+ghost use Rattle.pc_notes.specs.Texts.{AreFlowTexts};
+ghost use Rattle.pc_module_rules.specs.Modules.{IsFinding};
+ghost use Rattle.pc_module_rules.specs.Laws.Flows.{TellsFlows};
 ghost use Rattle.pc_front.specs.Bytes.{IsRefusalOf};
 ghost use Rattle.pc_top.specs.Headline.{Headline};
 
-use crate::checking::findings;
+use crate::checking::{ModuleFindings, findings};
 use crate::teardown::Teardown;
 use pc_front::parse_source;
 use pc_report::Report;
-use pc_source::{Fault, read_source};
-use pc_tree::Code;
+use pc_source::{Fault, OutOfMemory, read_source};
+use pc_tree::Module;
 use std::alloc::Global;
+
+/// Returns the findings of a module, and the texts of its dynamic flows; the other memory of the check is released
+/// according to `memory`.
+fn findings_alone(
+    alloc: Global,
+    module: Module,
+    memory: Teardown,
+) -> Result<ModuleFindings, OutOfMemory>
+    ensures found { IfOk result
+        (λ v. (f : FindingOf) → Contains v.findings.items f ↔ IsFinding (module_of «module») f) }
+    ensures flows { IfOk result (λ v. (notes : List Note) × TellsFlows (module_of «module») notes
+        × AreFlowTexts (module_of «module») A1 notes v.flows.items) }
+{
+    let checked = findings(alloc, &module)?;
+    let found = checked.found(alloc, &module)?;
+    memory.let_go((module, checked), found.findings.len());
+    Ok(found)
+}
 
 /// Returns the report of the module that the bytes spell, like `check`; the other memory of the check is released
 /// according to `memory`.
@@ -23,11 +48,8 @@ pub(crate) fn report_of(alloc: Global, bytes: &[u8], memory: Teardown) -> Result
 {
     let source = read_source(alloc, bytes)?;
     let module = parse_source(alloc, &source)?;
-    let found = findings(alloc, &module)?;
-    let flows = found.notes.texts(alloc, &module, Code::A1)?;
-    let findings = found.notes.findings(alloc)?;
-    memory.let_go((module, found), findings.len());
-    let report = Report::of(alloc, &source, &findings, &flows)?;
+    let found = findings_alone(alloc, module, memory)?;
+    let report = Report::of(alloc, &source, &found.findings, &found.flows)?;
     Ok(report)
 }
 

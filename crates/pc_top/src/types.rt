@@ -15,12 +15,12 @@ ghost use Rattle.pc_front.specs.Bytes.{IsRefusalOf};
 ghost use Rattle.pc_report.specs.TypeListing.{TypeFact, fact_of};
 ghost use Rattle.pc_top.specs.TypesOfBytes.{IsTypeAt, IsTypeFact, ListsTypesOf, expression_fact, name_fact};
 
+use crate::checking::store_of;
 use crate::names::{NameReading, add_noted};
 use pc_annotations::{ClassNames, ModuleOutline, named_text, parents_of};
 use pc_check::check_module;
 use pc_class::{ClassTable, class_table};
 use pc_front::parse_source;
-use pc_intern::InternStore;
 use pc_notes::Notes;
 use pc_report::{TypeEntry, TypeKind, TypeListing, TypeRow};
 use pc_scope::{Scopes, scopes};
@@ -49,6 +49,21 @@ fn noted_with<S: TypeStore>(
     Ok(noted)
 }
 
+/// Returns the class table of a module, without the findings made while building it.
+pub(crate) fn classes_alone<S: TypeStore>(
+    store: &mut S,
+    alloc: Global,
+    module: &Module,
+    scopes: &Scopes,
+) -> Result<ClassTable<S::Ty>, OutOfMemory>
+    requires { AreScopes (module_of «module».now) scopes.now }
+    ensures classes { IfOk result (λ t. classes_with S.tree t ≡ classes_of (module_of «module».now)) }
+    ensures given { IfOk result (HasEntries (S.has store.new)) }
+{
+    let mut found = Vec::new(alloc);
+    class_table(store, alloc, module, scopes, &mut found)
+}
+
 /// Returns what a walk over a module notes that keeps types.
 fn noted<S: TypeStore>(
     store: &mut S,
@@ -59,9 +74,24 @@ fn noted<S: TypeStore>(
     requires { AreScopes (module_of «module».now) scopes.now }
     ensures { IfOk result (λ v. notes_of v ≡ module_notes true (module_of «module».now) []) }
 {
-    let mut of_classes = Vec::new(alloc);
-    let classes = class_table(store, alloc, module, scopes, &mut of_classes)?;
-    noted_with(store, alloc, module, scopes, &classes)
+    let classes = classes_alone(store, alloc, module, scopes)?;
+    let noted = noted_with(store, alloc, module, scopes, &classes);
+    // Proofs take long where a table goes out of scope.
+    drop(classes);
+    noted
+}
+
+/// Returns what a walk over a module notes that keeps types, over a store of its own.
+pub(crate) fn notes_with_types(
+    alloc: Global,
+    module: &Module,
+    scopes: &Scopes,
+) -> Result<Notes, OutOfMemory>
+    requires { AreScopes (module_of «module».now) scopes.now }
+    ensures { IfOk result (λ v. notes_of v ≡ module_notes true (module_of «module».now) []) }
+{
+    let mut store = store_of(alloc, module, scopes)?;
+    noted(&mut store, alloc, module, scopes)
 }
 
 /// Returns a shown type as an entry of a listing.
@@ -128,20 +158,68 @@ fn add_declared<S: TypeStore>(
     reading.add_declared(store, entries)
 }
 
+/// Returns the entries of the listing of a module's types, in any order, given the notes of a walk that keeps types and
+/// the names of the classes.
+fn entries_named<S: TypeStore>(
+    store: &mut S,
+    alloc: Global,
+    module: &Module,
+    scopes: &Scopes,
+    notes: &Notes,
+    names: &ClassNames<'_>,
+) -> Result<Vec<TypeEntry>, OutOfMemory>
+    requires scopes { AreScopes (module_of «module».now) scopes.now }
+    requires notes { notes_of notes.now ≡ module_notes true (module_of «module».now) [] }
+    requires names { named_module names.now ≡ module_of «module».now }
+    ensures { IfOk result (λ v. (f : TypeFact) → Contains (map fact_of v.items) f
+        ↔ IsTypeFact (module_of «module».now) f) }
+{
+    let mut entries = entries_of(alloc, names, notes)?;
+    add_declared(store, alloc, module, scopes, names, &mut entries)?;
+    add_noted(alloc, names, notes, &mut entries)?;
+    Ok(entries)
+}
+
+/// Returns the entries of the listing of a module's types, in any order, given the notes of a walk that keeps types.
+fn entries_noted<S: TypeStore>(
+    store: &mut S,
+    alloc: Global,
+    module: &Module,
+    scopes: &Scopes,
+    notes: &Notes,
+) -> Result<Vec<TypeEntry>, OutOfMemory>
+    requires scopes { AreScopes (module_of «module».now) scopes.now }
+    requires notes { notes_of notes.now ≡ module_notes true (module_of «module».now) [] }
+    ensures { IfOk result (λ v. (f : TypeFact) → Contains (map fact_of v.items) f
+        ↔ IsTypeFact (module_of «module».now) f) }
+{
+    let names = ClassNames::of(alloc, module)?;
+    entries_named(store, alloc, module, scopes, notes, &names)
+}
+
+/// Returns the entries of the listing of a module's types, in any order, with types of a store.
+fn entries_with<S: TypeStore>(
+    store: &mut S,
+    alloc: Global,
+    module: &Module,
+    scopes: &Scopes,
+) -> Result<Vec<TypeEntry>, OutOfMemory>
+    requires { AreScopes (module_of «module».now) scopes.now }
+    ensures { IfOk result (λ v. (f : TypeFact) → Contains (map fact_of v.items) f
+        ↔ IsTypeFact (module_of «module».now) f) }
+{
+    let notes = noted(store, alloc, module, scopes)?;
+    entries_noted(store, alloc, module, scopes, &notes)
+}
+
 /// Returns the entries of the listing of a module's types, in any order.
 fn entries(alloc: Global, module: &Module) -> Result<Vec<TypeEntry>, OutOfMemory>
     ensures { IfOk result (λ v. (f : TypeFact) → Contains (map fact_of v.items) f
         ↔ IsTypeFact (module_of «module».now) f) }
 {
     let scopes = scopes(alloc, module)?;
-    let parents = parents_of(alloc, module, &scopes)?;
-    let mut store = InternStore::new(alloc, module.keys, parents)?;
-    let notes = noted(&mut store, alloc, module, &scopes)?;
-    let names = ClassNames::of(alloc, module)?;
-    let mut entries = entries_of(alloc, &names, &notes)?;
-    add_declared(&mut store, alloc, module, &scopes, &names, &mut entries)?;
-    add_noted(alloc, &names, &notes, &mut entries)?;
-    Ok(entries)
+    let mut store = store_of(alloc, module, &scopes)?;
+    entries_with(&mut store, alloc, module, &scopes)
 }
 
 /// Returns the types of the module that the bytes spell.
@@ -170,7 +248,7 @@ pub fn types_of(alloc: Global, bytes: &[u8]) -> Result<TypeListing, Fault>
 
 /// Returns the type of the smallest expression or bound name around a byte of the module that the bytes spell: the row
 /// of the listing of its types with the smallest place around the byte, or `None` if no row is around it. A place is
-/// around its own bytes, and around the byte behind it. Own rule of the profile.
+/// around its own bytes, and around the byte after it. Own rule of the profile.
 ///
 /// # Errors
 ///

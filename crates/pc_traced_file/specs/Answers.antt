@@ -33,7 +33,7 @@ module _ {R : Type 0} (remaining : R → Option (List ℕ)) where
     pub read : IsRead remaining most_read bytes old new
     pub refused : IsRefusalOf bytes refusal
 
--- the text is the trace of a run of these
+-- the text is the trace of a run: the lines of its events and its end
 pub record IsTraceText (Runs : List Place → End → Type 0) (text : List ℕ) : Type 0 where
   pub events : List Place
   pub end : End
@@ -48,7 +48,7 @@ module _ {W : Type 0} (contents : W → Option (List ℕ)) where
     pub runs : Runs events end
     pub written : TakesAll contents (trace_lines events end) old new
 
-  -- a beginning of the trace of the run is written, of this many bytes
+  -- the first bytes of the trace of the run are written, up to some number
   pub record IsTraceCut (Runs : List Place → End → Type 0) (old new : Counted W) : Type 0 where
     pub events : List Place
     pub end : End

@@ -18,7 +18,7 @@ abbrev pub fault_of_read : ReadFault → RunFault
 fault_of_read read_fault.OutOfMemory = run_fault.OutOfMemory
 fault_of_read read_fault.Read = run_fault.Read
 
--- P holds for the refusal of a fault that is one
+-- P holds of the refusal, if the fault is one
 abbrev pub WhenRefused : (Refusal → Type 0) → RunFault → Type 0
 WhenRefused P (run_fault.Refused refusal) = P refusal
 WhenRefused P _ = Unit {0}
@@ -28,7 +28,7 @@ abbrev pub IsBeforeWriting : RunFault → Type 0
 IsBeforeWriting run_fault.Write = ⊥
 IsBeforeWriting _ = Unit {0}
 
--- the fault is still the same, or that of an allocation which failed as a refusal was told
+-- the fault is unchanged, or that of an allocation that failed when the line of a refusal was made
 abbrev pub IsExplainedAs : (old new : RunFault) → Type 0
 IsExplainedAs (run_fault.Refused refusal) new = (new ≡ run_fault.Refused refusal) ⊎ (new ≡ run_fault.OutOfMemory)
 IsExplainedAs old new = new ≡ old

@@ -194,11 +194,11 @@ abbrev pub wholes_of_items : List Item → List Whole
 wholes_of_items [] = []
 wholes_of_items (i ∷ is) = wholes_of_item i ++ wholes_of_items is
 
--- the byte where the first that is too deep begins, if one is
+-- the byte where the first of these that is too deep begins, if there is one
 abbrev pub first_too_deep : List Whole → Option ℕ
 first_too_deep [] = None
 first_too_deep (w ∷ ws) = if nat_lt depth_limit w.depth then Some w.start else first_too_deep ws
 
--- the byte where the module's first whole expression, target or annotation that is too deep begins, if one is
+-- the byte where the module's first whole expression, target or annotation that is too deep begins, if there is one
 abbrev pub too_deep_at : Module → Option ℕ
 too_deep_at m = first_too_deep (wholes_of_items m.items)

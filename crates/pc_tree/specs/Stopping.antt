@@ -1,6 +1,6 @@
 -- The findings that stop a run before its first event: conditions on the tree alone. Python Language Reference 3.12,
--- 4.2 "Naming and binding",
--- 6.3.4 "Calls", 7.9, 7.10, 8.7; the reserved names, `main` and the members of classes are own rules of the profile.
+-- 4.2 "Naming and binding", 6.3.4 "Calls", 7.9, 7.10, 8.7; the reserved names, `main` and the members of classes are
+-- own rules of the profile.
 use Rattle.std.specs.Prelude.{ℕ, ◌&&◌, ◌||◌, not, Bool, true, false, if◌then◌else◌, List, [], ◌∷◌, ◌++◌, map, Option}
 use Rattle.std.specs.Prelude.{Some, None, is_some, is_none, Contains, bytes_eq, codes}
 use Rattle.std.specs.List.{list_any}

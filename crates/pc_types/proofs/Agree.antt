@@ -110,7 +110,7 @@ tuples_meet {bases} {ss} {ts} s c m n e =
     let q : r.parts ≡ ss = cc (stands, f) in
     subst (EachMeets bases ts) q r.met
 
--- what meets both ways flows both ways at once; the first stands in a type into which the second flows
+-- a type that meets another, which meets a type that agrees with the first, flows both ways into the other
 mutual
   both_of : {bases : Bases} {s t : Tree} → Meets bases s t → (s' : Tree) → Meets bases t s' → IsNormal s → IsNormal t
       → IsNormal s' → Agrees s s' → HeadFlow bases true s t
@@ -255,7 +255,7 @@ pub each_count : {bases : Bases} {both : Test} {ss ts : Trees} → EachFlow base
 each_count w_end = refl
 each_count (w_more f c fs) = ap (λ n. n + 1) (each_count fs)
 
--- what flows both ways at once meets both ways
+-- a type that flows into another meets it, and meets it back if it flows both ways
 mutual
   pub meets_of_flow : {bases : Bases} {both : Test} {s t : Tree} → HeadFlow bases both s t → IsNormal s → IsNormal t
       → Meets bases s t

@@ -27,7 +27,7 @@ chain_of h = go (sub_of h)
     go : {bases : Bases} {c d : ℕ} → Sub bases (Class c) (Class d) → Chain bases c d
     go (s_class k) = k
 
--- what a chain leads to is reached
+-- a class at the end of a chain is reached from the class at its start
 pub chain_reaches : {bases : Bases} {c d : ℕ} → AreSmaller bases → Chain bases c d → reaches bases c c d ≡ true
 chain_reaches {bases} {c} o here = reaches_itself bases c c refl
 chain_reaches {bases} {c} {d} o (up {b = b} e k) = ⊎_elim (λ q. reaches_itself bases c d q)

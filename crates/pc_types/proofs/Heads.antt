@@ -141,7 +141,7 @@ pub covers_any : {bases : Bases} {s : Tree} (g : Test) → Covers bases s (cond 
 covers_any true = c_to_any
 covers_any false = c_object
 
--- what an arm of a match leaves
+-- a boxed type other than a union, Never and, in a gradual test, Any is none of them as the test reads it
 pub is_left : (g : Test) (s : BoxType) → (IsTrue g → s ≡ ty.Any → ⊥) → (s ≡ ty.Never → ⊥) → IsNoUnion s
     → IsLeft (as_tested g (tree_of s))
 is_left true ty.Any a n u = absurd (a refl refl)
@@ -181,7 +181,7 @@ no_base {bases} m n h = go (chain_class h) m n
     go here m n = n refl
     go (up f k) m n = m _ f
 
--- what the default arm of a match says of a type in boxes
+-- a boxed type that does not match the union arm is not a union
 pub is_no_union : (t : BoxType) → ((x y : Box BoxType Global) → t ≡ ty.Union x y → ⊥) → IsNoUnion t
 unfolding roll-BoxType denote.Hole.Carrier.roll
 is_no_union t n = go (out-BoxType t) (roll-out-BoxType t) n

@@ -37,7 +37,7 @@ not_below : (bases : Bases) (c d : ℕ) → (Below bases (Class c) (Class d) →
 not_below bases c d n = false_from_ne_true _
     (λ e. n (reaches_below bases c c d (and_parts (not (c == d)) (reaches bases c c d) e).1))
 
--- what no member absorbs
+-- a type that no member absorbs: neither bool nor a class
 abbrev IsNeverAbsorbed : Tree → Type 0
 IsNeverAbsorbed Bool = ⊥
 IsNeverAbsorbed (Class c) = ⊥

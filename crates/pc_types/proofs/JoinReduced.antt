@@ -136,7 +136,7 @@ all_incomparable : (bases : Bases) {ns ms l : List Tree} (x : Tree) → PutAll b
 all_incomparable bases x a_none h k = k
 all_incomparable bases x (a_one p q) h k = put_incomparable bases x q h.0 (all_incomparable bases x p h.1 k)
 
--- so of each of several members
+-- merging each of several members with another keeps normal forms without absorbed members
 abbrev AllMake : Bases → List Tree → Type 0
 AllMake bases [] = Unit {0}
 AllMake bases (m ∷ ms) = Makes bases m × AllMake bases ms
@@ -153,7 +153,7 @@ all_pairwise bases a_none g h c a = a
 all_pairwise bases (a_one {m = m} p q) g h c a = put_pairwise bases q h.0 g.0 (all_incomparable bases m p h.1.0 c.0)
     (all_pairwise bases p g.1 h.1.1 c.1 a)
 
--- what neither side absorbs is free of the other
+-- the members that one side keeps are incomparable to those that the other side keeps
 module _ (bases : Bases) (s : Tree) where
   across_tested : (m k : Tree) (ks : List Tree) (x : Test) → absorbs bases k m ≡ false
       → (x ≡ false → absorbs bases m k ≡ false) → IncomparableToEach bases m ks

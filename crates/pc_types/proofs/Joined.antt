@@ -17,7 +17,7 @@ use Rattle.pc_types.specs.declared.boxed.BoxType.TheVariants as ty
 use Rattle.pc_types.proofs.Tuples.{both_true}
 use Rattle.pc_types.proofs.Together.{put_same}
 
--- what a call answers, said otherwise
+-- if a call's value maps to a, it maps to every b that equals a
 pub ok_as : {X Y E : Type 0} (f : X → Y) (r : Result X E) (a b : Y) → a ≡ b → IfOk r (λ o. f o ≡ a)
     → IfOk r (λ o. f o ≡ b)
 ok_as f r a b e h = subst (λ x. IfOk r (λ o. f o ≡ x)) e h
@@ -137,7 +137,7 @@ tuple_case bases ss ts true e =
     ∙ ap (λ o. option_map union (option_map (λ f. f ∷ []) (option_map TupleOf o))) (same_join bases ss ts e)
 tuple_case bases ss ts false e = refl
 
--- what the rules say of a tuple is the join, equal or not
+-- the join of a tuple and another type is their join by rule, whether the two are equal or not
 pub tuple_rule : (bases : Bases) (ss : Trees) (t : Tree) → by_rule (TupleOf ss) t
     (option_map union (put_all bases t (TupleOf ss) (unabsorbed_members bases t (TupleOf ss)))) ≡ join_of bases
     (TupleOf ss) t
@@ -182,7 +182,7 @@ tuple_rule_at bases s ss t e =
     subst (λ x. by_rule x t (option_map union (put_all bases t x (unabsorbed_members bases t x))) ≡ join_of bases x t)
     (sym e) (tuple_rule bases ss t)
 
--- what a vector of parts means
+-- the trees of a vector of boxed types, as the parts of a tuple
 abbrev pub parts_tree : Vec BoxType Global → Trees
 parts_tree v = trees_in v.items
 

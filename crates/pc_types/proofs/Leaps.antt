@@ -13,7 +13,7 @@ use Rattle.pc_types.proofs.Descent.{reaches_below, below_reaches}
 pub leap_down : (bases : Bases) → AreSmaller bases → (c j : ℕ) → reaches bases c c j ≡ true → j ≤ c
 leap_down bases o c j e = reaches_down bases o j c c e
 
--- what a class's base leaps to is an ancestor of the class
+-- the class that a class's base leaps to is an ancestor of the class
 pub leap_of_base : (bases : Bases) → AreSmaller bases → (c b j : ℕ) → base_of bases c ≡ Some b
     → reaches bases b b j ≡ true → reaches bases c c j ≡ true
 leap_of_base bases o c b j e h =

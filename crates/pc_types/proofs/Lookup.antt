@@ -53,7 +53,7 @@ there t false e = cc
 before_place : (p q r : ℕ × ℕ) → same_place p q ≡ true → IsRankBefore r q → IsRankBefore r p
 before_place p q r e h = grind (arith, nat_tests)
 
--- what is found in a type that stands after a member has its place after that member's
+-- a place found in a type that comes after a member comes after the place of that member
 pub found_behind : {m : Tree} (p : ℕ × ℕ) (a t : Tree) → IsAfter a t → find p t ≡ Some m
     → IsRankBefore (member_rank a) p
 found_behind p a (Union c d) h e = ⊎_elim (found_behind p a c h.0) (found_behind p a d h.1)
@@ -63,7 +63,7 @@ found_behind p a Object h e = absurd h.0
 found_behind p a Never h e = absurd h.0
 found_behind p a t h e = before_place p (member_rank t) (member_rank a) (there t (same_place p (member_rank t)) e) h.1
 
--- what the second has at the first's place, or at those of its members, is the first, or that member
+-- the second type has each list, dict and tuple member of the first at its place, and is Any if the first is
 abbrev pub Agrees : Tree → Tree → Type 0
 Agrees Any u = u ≡ Any
 Agrees (ListOf t) u = find (5, 0) u ≡ Some (ListOf t)

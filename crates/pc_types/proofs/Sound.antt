@@ -101,7 +101,7 @@ mutual
   merge_each_any end = refl
   merge_each_any (more t ts) = λ i. more (merge_any t i) (merge_each_any ts i)
 
--- what is to be shown of two types, which stand as members in two others
+-- the claim about two types that are members of two others: the merge of the first is a subtype of that of the second
 abbrev Claim : Bases → Tree → Tree → Type 0
 Claim bases s t = (s' t' : Tree) → IsNotAny s → IsNotAny t → Agrees s s' → Agrees t t'
     → Below bases (merge s t') (merge t s')

@@ -60,7 +60,7 @@ put_member bases other (Union a b) ms h = absurd h
 put_member bases other (TupleOf ss) ms h = refl
 put_member bases other _ ms h = refl
 
--- what stands before a member stays in front of it
+-- the first member of a list stays first when a member of higher rank is put into the list
 put_behind : (b m : Tree) (one : Tree → Option Tree) (ms : List Tree) → IsRankBefore (member_rank b) (member_rank m)
     → put_among m one (b ∷ ms) ≡ option_map (λ l. b ∷ l) (put_among m one ms)
 put_behind b m one ms h = rw (before_false m b h, before_true b m h) refl
@@ -128,7 +128,7 @@ one_rank bases (TupleOf ss) n f e =
     ap member_rank r.2 ∙ ap (λ k. (7, k)) (join_count bases ss (parts_of n) r.0 r.1)
 one_rank bases m n f e = ap member_rank (equal_is m n f e)
 
--- what is put after a member stands after it
+-- a list of members that come after a member stays so when one more such member is put into it
 module _ (a m n : Tree) (one : Tree → Option Tree) (ns l : List Tree) where
   abbrev Keeps : Option (List Tree) → Type 0
   Keeps o = (k : List Tree) → o ≡ Some k → AllBehind a k

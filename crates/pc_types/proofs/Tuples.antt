@@ -67,7 +67,7 @@ module _ (bases : Bases) (g both : Test) where
         (λ k a b l. h (suc k) a b (omega arith)),
   )
 
--- so does one that a match found to be a tuple
+-- a boxed type that matches the tuple arm means the tuple of the types of its items
 pub tuple_is : (t : BoxType) (v : Vec BoxType Global) → t ≡ ty.Tuple v → tree_of t ≡ TupleOf (trees_in v.items)
 tuple_is t v e = ap tree_of e ∙ tuple_tree v
 
@@ -105,7 +105,7 @@ same_default [] i d e h = absurd (omega arith)
 same_default (x ∷ xs) zero d e h = refl
 same_default (x ∷ xs) (suc i) d e h = same_default xs i d e (omega arith)
 
--- what holds of two items that were read holds at their index
+-- a relation between two items that were read holds between the items at their index, whatever the defaults
 pub at_index : (P : BoxType → BoxType → Type 0) (xs ys : List BoxType) (i : ℕ) (x y : BoxType) → i < length xs
     → i < length ys → x ≡ get_or xs i x → y ≡ get_or ys i y → P x y → (d e : BoxType)
     → P (get_or xs i d) (get_or ys i e)

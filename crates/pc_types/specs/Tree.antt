@@ -4,7 +4,7 @@ use Rattle.std.specs.Prelude.{ℕ}
 
 -- types, and the parts of tuple types
 mutual
-  -- a type: a class is given by its number in the module, a union is one of two
+  -- a type: a class is given by its number in the module, a union by two members
   pub data Tree : Type 0 where
     Any Object Never Int Bool Str NoneType : Tree
     Class : (number : ℕ) → Tree

@@ -15,7 +15,7 @@ use Rattle.pc_value.specs.Internal.Changes.{CellChange, pops, sets_item, sets_ke
 use Rattle.pc_value.specs.Internal.Changes.{pop_result, stored_at, stored_key}
 use Rattle.pc_value.proofs.Lists.{set_same}
 
--- what is seen as a list, a dict or an instance lies there
+-- a list, dict or instance that is seen is in the heap at its location
 list_lies : (heap : Heap) (m l : ℕ) (items : List Value) (o : Option Cell) → slice_get heap m ≡ o
     → a_list l items ≡ seen_cell m o → slice_get heap l ≡ Some (list_cell items)
 list_lies heap m l items None h e = absurd (cc)

@@ -53,7 +53,7 @@ count_of f (x ∷ xs) v = ap suc (count_of f xs v)
 one_less : {A B : Type 0} (f : A → B) (xs : List A) (v : A) → length (map f (xs ++ v ∷ [])) - 1 ≡ length xs
 one_less f xs v = let e = count_of f xs v in omega arith
 
--- what a list is after it lost its last item
+-- the cell of a list after `pop` has all items but the last
 pub pop_after : (xs rest : List RustValue) (v : RustValue) → xs ≡ rest ++ v ∷ [] → list_cell (map value_of rest)
     ≡ (pop_result (map value_of xs) (last_of (map value_of xs))).cell
 pop_after xs rest v e = rw (

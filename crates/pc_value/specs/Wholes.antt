@@ -1,4 +1,4 @@
--- WholeNumber numbers of the program by their sign.
+-- Whole numbers of the program, by their sign.
 use Rattle.std.specs.Prelude.{ℤ, pos, negsuc, if◌then◌else◌, Option, Some, None}
 use Rattle.pc_value.specs.declared.whole.WholeNumber.{WholeNumber}
 use Rattle.pc_value.specs.declared.whole.WholeNumber.TheVariants.{AtLeastZero, BelowZero}

@@ -45,7 +45,7 @@ module _ {Store Ty : Type 0} (S : StoreOf Store Ty) where
   abbrev pub IsEnv : Walk Store Ty → List (Option Ty) → Env → Type 0
   IsEnv w types env = GivesTypes S.has S.tree (class_parents w.context.globals.now) w.store.now types env
 
-  -- an environment of the walk, if there is one, means this environment; if there is none, so is here
+  -- an environment of the walk, if there is one, means this environment, if there is one
   abbrev pub IsWay : Walk Store Ty → Option (List (Option Ty)) → Option Env → Type 0
   IsWay w types way = GivesTypesIfAny S.has S.tree (class_parents w.context.globals.now) w.store.now types way
 

@@ -25,7 +25,7 @@ pub record NamesNone (fault : HeaderFault) (bytes : List ℕ) : Type 0 where
   pub none : length_in bytes ≡ Err fault
 
 -- the fault of the bytes that were read: the end cuts off a header or a message, a header does not end within the
--- limit, or a header gives no length; nothing is said here of memory, of the device and of long messages
+-- limit, or a header gives no length; faults of memory, of the device and of long messages are not constrained here
 abbrev pub IsFaultOf : List ℕ → FrameFault → Type 0
 IsFaultOf bytes OutOfMemory = Unit {0}
 IsFaultOf bytes Read = Unit {0}

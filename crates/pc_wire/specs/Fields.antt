@@ -34,7 +34,7 @@ abbrev pub with_digits : Option ℕ → List ℕ → Option ℕ
 with_digits number [] = number
 with_digits number (byte ∷ bytes) = with_digits (after_digit number byte) bytes
 
--- the decimal number that the text is: one or more digits and nothing else, and it fits 64 bits
+-- the decimal number that the text spells: one or more digits and nothing else, and it fits 64 bits
 abbrev pub number_in : List ℕ → Option ℕ
 number_in text = if length text == 0 then None else with_digits (Some 0) text
 

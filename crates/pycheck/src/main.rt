@@ -1,13 +1,14 @@
-//! Checks a module: `pycheck [--json] [--types | --format N] FILE`.
+//! Checks a module: `pycheck [--json] [--types | --details | --format N] FILE`.
 #![tactic(auto)]
 
-use pc_checked_file::{Asked, CheckFault, FindingCounts, check_file, status_of};
+use pc_checked_file::{Asked, CheckFault, FindingCounts, check_file, explain_file, status_of};
 use pc_commands::{RemembersError, given_words, reason_of, tell};
 pub use pc_commands::{CheckOptions as Options, OptionFault, check_options as options};
 use pc_source::Counted;
+use std::alloc::Global;
 use std::fs::File;
 use std::io;
-use std::io::Write;
+use std::io::{Read, Write};
 use std::process::ExitCode;
 use std::rt::{Env, Files};
 
@@ -35,7 +36,27 @@ fn explain<R: Eprint + AllocGlobal>(
     let _ = eprintln!(rt; "{fault}");
 }
 
-/// Checks the content of a file and writes the report, or the listing of types, to standard output.
+/// Writes what the words ask for: the report, with details or without, or the listing of types.
+fn answered<R: Read + Drop, W: Write + Drop, E: Write + Drop>(
+    alloc: Global,
+    options: &Options,
+    input: &mut Counted<R>,
+    output: &mut Counted<W>,
+    errors: &mut Counted<E>,
+) -> Result<FindingCounts, CheckFault> {
+    if options.details {
+        return explain_file(alloc, options.json, input, output, errors);
+    }
+    let asked = Asked {
+        types: options.types,
+        json: options.json,
+        format: options.format,
+    };
+    check_file(alloc, asked, input, output, errors)
+}
+
+/// Checks the content of a file and writes the report, with details if they are asked for, or the listing of types, to
+/// standard output.
 fn checked<R: Print + Eprint + Files + AllocGlobal, E: Write + Drop>(
     rt: &R,
     options: &Options,
@@ -45,12 +66,7 @@ fn checked<R: Print + Eprint + Files + AllocGlobal, E: Write + Drop>(
     let mut input = Counted::new(RemembersError::new(file));
     let mut output = Counted::new(RemembersError::new(io::writer(rt)));
     let mut errors = Counted::new(errors);
-    let asked = Asked {
-        types: options.types,
-        json: options.json,
-        format: options.format,
-    };
-    let outcome = check_file(rt.alloc(), asked, &mut input, &mut output, &mut errors);
+    let outcome = answered(rt.alloc(), options, &mut input, &mut output, &mut errors);
     match &outcome {
         Err(CheckFault::Read) => explain(
             rt,

@@ -14,8 +14,8 @@ use Rattle.pc_top.specs.TypesOfBytes.{ListsTypesOf, listing_bytes}
 use Rattle.pycheck_library.specs.Room.{IsPut}
 use Rattle.pycheck_library.specs.declared.answer.CheckAnswer.{CheckAnswer}
 
--- the answer is that there is a report of these rows; its text, or its JSON, has the length of the answer and is put into
--- the room; and the numbers of errors and of dynamic places are those of the rows
+-- the answer reports these rows: its length is that of their text or JSON, which is put into the room, and its numbers
+-- of errors and of dynamic places are those of the rows
 pub record TellsReport (json : Bool) (format : Format) (rows : List Row) (old new : List ℕ) (answer : CheckAnswer) : Type 0 where
   pub kind_is : answer.kind ≡ 0
   pub length_is : answer.length ≡ length (report_bytes json format rows)
@@ -23,8 +23,7 @@ pub record TellsReport (json : Bool) (format : Format) (rows : List Row) (old ne
   pub errors_are : answer.errors ≡ errors_of rows
   pub dynamic_are : answer.dynamic ≡ dynamic_count rows
 
--- the headline holds of the bytes and some rows, and their report, in the format of the number, is told and put into the
--- room
+-- the headline holds of the bytes and some rows, and the answer reports these rows in the format with this number
 pub record IsReported (bytes : List ℕ) (json : Bool) (number : ℕ) (old new : List ℕ) (answer : CheckAnswer) : Type 0 where
   pub rows : List Row
   pub headline : Headline bytes rows
@@ -32,8 +31,8 @@ pub record IsReported (bytes : List ℕ) (json : Bool) (number : ℕ) (old new :
   pub named : format_number format ≡ number
   pub told : TellsReport json format rows old new answer
 
--- the listing of the types of the bytes has the length of the answer and is put into the room; the numbers of errors and
--- of dynamic places are those of the report of the bytes
+-- the length of the answer is that of the listing of the types of the bytes, which is put into the room; its numbers of
+-- errors and of dynamic places are those of the report of the bytes
 pub record IsListed (bytes : List ℕ) (json : Bool) (old new : List ℕ) (answer : CheckAnswer) : Type 0 where
   pub rows : List Row
   pub headline : Headline bytes rows
@@ -44,7 +43,7 @@ pub record IsListed (bytes : List ℕ) (json : Bool) (old new : List ℕ) (answe
   pub length_is : answer.length ≡ length (listing_bytes json types)
   pub put : IsPut (listing_bytes json types) old new
 
--- the code and the byte are those of the refusal of the bytes, which stands within them
+-- the code and the byte of the answer are those of the refusal of the bytes, at a byte from 0 to their length
 pub record IsRefused (bytes : List ℕ) (answer : CheckAnswer) : Type 0 where
   pub refusal : Refusal
   pub refused : IsRefusalOf bytes refusal

@@ -26,7 +26,7 @@ fn told(alloc: Global, fault: &OptionFault, want: &str) -> Result<String, AllocE
 }
 
 /// Returns the request of words for `pycheck`, each of which follows a bar: the form, the format of the report or the
-/// word `types`, and the file, or the message of their fault.
+/// word `types` or `details`, and the file, or the message of their fault.
 pub fn check_text(alloc: Global, row: &str, want: &str) -> Result<String, AllocError> {
     let words: Vec<&str> = row.split('|').skip(1).collect(alloc)?;
     match check_options(alloc, words.as_slice()) {
@@ -34,6 +34,7 @@ pub fn check_text(alloc: Global, row: &str, want: &str) -> Result<String, AllocE
             CheckOptions {
                 json,
                 types,
+                details,
                 format,
                 file,
             },
@@ -41,6 +42,9 @@ pub fn check_text(alloc: Global, row: &str, want: &str) -> Result<String, AllocE
             let form = if json { "json" } else { "text" };
             if types {
                 return format!(in alloc; "{form} types <{file}>");
+            }
+            if details {
+                return format!(in alloc; "{form} details <{file}>");
             }
             let number = format.number();
             format!(in alloc; "{form} {number} <{file}>")

@@ -4,8 +4,8 @@ use pc_notes::Notes;
 use pc_scope::scopes;
 use pc_source::{Counted, Fault, Source, read_source};
 use pc_top::{
-    CheckFault, FindingCounts, Format, Report, check, check_stream, findings_by, type_at, types_of,
-    types_stream,
+    CheckFault, FindingCounts, Format, Report, check, check_explained, check_stream, findings_by,
+    type_at, types_of, types_stream,
 };
 use pc_tree::{Code, Module};
 use pc_types::BoxStore;
@@ -67,6 +67,13 @@ impl ReportMaker for Checking {
 
     fn by_boxes(&self, alloc: Global, bytes: &[u8], format: Format) -> Result<String, AllocError> {
         told(alloc, check_by_boxes(alloc, bytes), format)
+    }
+
+    fn explained(&self, alloc: Global, bytes: &[u8]) -> Result<String, AllocError> {
+        match check_explained(alloc, bytes) {
+            Ok(detailed) => detailed.to_text(alloc).map_err(|_| AllocError),
+            Err(fault) => format!(in alloc; "{fault}"),
+        }
     }
 
     fn of_stream<R: Read + Drop, W: Write + Drop>(

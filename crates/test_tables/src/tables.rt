@@ -16,7 +16,7 @@ pub fn judge(alloc: Global, file: &str, table: &str, tally: &mut Tally) -> Resul
         "runs" => test_runs::judge(alloc, kind, table, tally),
         "layers" => test_layers::judge(alloc, kind, table, tally),
         "typing" => test_typing::judge(alloc, kind, table, tally),
-        "reports" => test_cases::reports::judge(alloc, kind, table, &Checking, tally),
+        "reports" | "details" => test_cases::reports::judge(alloc, kind, table, &Checking, tally),
         _ => Err(TableFault::Kind),
     }
 }

@@ -20,6 +20,7 @@ script itself has when it starts the program.
 """
 from __future__ import annotations
 
+import fcntl
 import functools
 import itertools
 import os
@@ -36,6 +37,8 @@ from . import truncate
 
 SECONDS, MEBIBYTES, LENGTH = 2.0, 80.0, 1 << 20
 STACK, MOST_SECONDS, MOST_BYTES = 1 << 20, 20, 2 << 30
+# The most bytes of the first and of the last line of an answer that are compared
+ENDS = 200
 # The texts that are known to exceed a bound, and which bound: docs/MEASURED.md says by how much, and why
 KNOWN: Dict[str, Set[str]] = {
     "an unknown name as every item": {"MiB"},
@@ -701,26 +704,32 @@ def limited() -> None:
 
 
 def ends_of(file: IO[bytes]) -> Tuple[str, str]:
-    """Returns the first and the last line of a file."""
-    size = os.fstat(file.fileno()).st_size
-    file.seek(0)
-    first = file.readline(200).decode(errors="replace").rstrip("\n")
-    file.seek(max(0, size - 200))
-    lines = file.read().decode(errors="replace").splitlines()
-    return first, lines[-1] if lines else ""
+    """Reads a stream to its end, keeps its ends alone, and returns the first and the last line, at most 200 bytes of
+    each."""
+    first = last = b""
+    while block := os.read(file.fileno(), LENGTH):
+        first, last = (first + block[:ENDS])[:ENDS], (last + block)[-ENDS:]
+    lines = last.decode(errors="replace").splitlines()
+    return first.split(b"\n")[0].decode(errors="replace"), lines[-1] if lines else ""
 
 
 def measured(program: str, words: Sequence[str], data: bytes) -> Got:
-    """Returns how a run ended, the ends of its answer, and the seconds and the MiB that it took."""
-    with tempfile.NamedTemporaryFile(suffix=".py") as file, tempfile.TemporaryFile() as out, tempfile.TemporaryFile() as said:
+    """Returns how a run ended, the ends of its answer, and the seconds and the MiB that it took. The answer goes through
+    a pipe: a disk may take longer to store hundreds of MiB than the check takes."""
+    with tempfile.NamedTemporaryFile(suffix=".py") as file, tempfile.TemporaryFile() as said:
         file.write(data)
         file.flush()
-        run = subprocess.Popen([program, *words, file.name], stdin=subprocess.DEVNULL, stdout=out, stderr=said, preexec_fn=limited)
+        reads, writes = os.pipe()
+        with open(reads, "rb") as out, open(writes, "wb") as given:
+            fcntl.fcntl(given, fcntl.F_SETPIPE_SZ, LENGTH)
+            run = subprocess.Popen([program, *words, file.name], stdin=subprocess.DEVNULL, stdout=given, stderr=said, preexec_fn=limited)
+            given.close()
+            ends = ends_of(out)
         _, status, used = os.wait4(run.pid, 0)
         run.returncode = os.waitstatus_to_exitcode(status)
-        first, last = ends_of(out if run.returncode in (0, 1) else said)
+        said.seek(0)
+        first, last = ends if run.returncode in (0, 1) else ends_of(said)
     return run.returncode, first, last, used.ru_utime + used.ru_stime, used.ru_maxrss / 1024
-
 
 
 def is_stopped(got: Got) -> bool:
@@ -781,25 +790,29 @@ class Tally:
 
 
 # The words for each form of a report, and the name of the form in the rows
-FORMS: Dict[Tuple[str, ...], str] = {(): "", ("--json",): " (JSON)", ("--format=1",): " (format 1)"}
+FORMS: Dict[Tuple[str, ...], str] = {(): "", ("--json",): " (JSON)", ("--format=1",): " (format 1)", ("--details",): " (details)"}
+# The forms of which the status alone is compared
+UNREAD = (("--json",), ("--details",))
 
 
 def forms_of(name: str) -> Iterator[Tuple[str, ...]]:
-    """Yields the forms in which a text is tried: JSON too if there are many findings, and each form if there are many
-    flows."""
+    """Yields the forms in which a text is tried: JSON too if there are many findings, format 1 if there are many flows,
+    and with details if types are long."""
     yield ()
     if name in LONG and ("every" in name or "again" in name):
         yield ("--json",)
     if name in LONG and ("flow" in name or "call with" in name):
         yield ("--format=1",)
+    if name in LONG and "long" in name:
+        yield ("--details",)
 
 
 def want_in_form(want: Optional[Want], words: Tuple[str, ...]) -> Optional[Want]:
-    """Returns the expected answer in another form of the report: JSON is one line, of which only the status is
-    compared, and format 1 has no types."""
+    """Returns the expected answer in another form of the report: of JSON, which is one line, and of details only the
+    status is compared, and format 1 has no types."""
     if not words or want is None:
         return want
-    return Want(want.status, "", "") if words == ("--json",) else want._replace(first=want.first.split(" any-flow")[0] + " any-flow")
+    return Want(want.status, "", "") if words in UNREAD else want._replace(first=want.first.split(" any-flow")[0] + " any-flow")
 
 
 def seconds_of(got: Got) -> float:

@@ -19,10 +19,11 @@ refused, in the order of its tables:
     write    the third column: what to write instead
 
 and tools/pycheck_all/cases.json, a list with an object for each row of the table of docs/CODES.md that has other advice
-for some words at the place of an error:
+for some words at the place of an error, or for some forms of the sentence of its detail:
 
     code     the code
-    words    the words
+    words    the words; none for all places
+    detail   the form of the sentence; empty for all sentences
     write    what is said there
 
 Without `--write` it only compares, prints a line for each file that differs, and the exit status is then 1. It also
@@ -50,7 +51,7 @@ RUN = re.compile(r"^\*\*In a run:\*\* (This error is [^.]+\.)\n\n", re.MULTILINE
 BEING = re.compile(r"This error is (?:heard|harmless|silent)(?: (?:at|where) .+, and heard(?: (?:at|where) .+| elsewhere))?\.")
 FORMS = re.compile(r"^\| Python \| Answer \| Write \|\n\|[-|]+\n((?:\|.*\n)+)", re.MULTILINE)
 CASES = ROOT / "tools" / "pycheck_all" / "cases.json"
-WORDS = re.compile(r"^\| Code \| Words \| Advice \|\n\|[-|]+\n((?:\|.*\n)+)", re.MULTILINE)
+WORDS = re.compile(r"^\| Code \| Words \| Detail \| Advice \|\n\|[-|]+\n((?:\|.*\n)+)", re.MULTILINE)
 WORD = re.compile(r"`(\w+(?: \w+)?)`")
 CELLS = re.compile(r"(?<!\\)\|")
 REFUSAL = re.compile(r"`([SLING]\d+)`")
@@ -82,8 +83,8 @@ def cases_of(page: str) -> Iterator[Dict[str, Any]]:
     """Yields the rows about words at a place that tell more than the code."""
     for table in WORDS.findall(page):
         for line in table.splitlines():
-            code, words, write = (cell.strip() for cell in CELLS.split(line)[1:-1])
-            yield {"code": code.strip("`"), "words": WORD.findall(words), "write": write}
+            code, words, detail, write = (cell.strip().replace("\\|", "|") for cell in CELLS.split(line)[1:-1])
+            yield {"code": code.strip("`"), "words": WORD.findall(words), "detail": detail.strip("`"), "write": write}
 
 
 def run_of(code: str, entry: str) -> str:
@@ -129,12 +130,13 @@ def missing_in(texts: Dict[str, Dict[str, Any]], forms: List[Dict[str, Any]]) ->
 
 def faults_of(cases: List[Dict[str, Any]], texts: Dict[str, Dict[str, Any]]) -> Iterator[str]:
     """Yields the faults of the rows of words."""
-    named = [(it["code"], word) for it in cases for word in it["words"]]
-    for code, word in sorted({it for it in named if named.count(it) > 1}):
-        yield f"{PAGE.name}: {word} of {code} stands twice"
+    named = [(it["code"], word, it["detail"]) for it in cases for word in it["words"] or [""]]
+    for code, word, detail in sorted({it for it in named if named.count(it) > 1}):
+        yield f"{PAGE.name}: {word or detail} of {code} stands twice"
     for it in cases:
-        if texts.get(it["code"], {}).get("kind") != "error" or not it["words"] or not it["write"].endswith("."):
-            yield f"{PAGE.name}: a row of words has no error, no word or no sentence: {it['code']}"
+        tells = it["words"] or it["detail"]
+        if it["code"] not in texts or not tells or not it["write"].endswith("."):
+            yield f"{PAGE.name}: a row has no code of the page, neither words nor a sentence, or no advice: {it['code']}"
 
 
 def data_of(whole: Any) -> str:

@@ -18,6 +18,7 @@ instead, is given to mypy. The page has
         `the forms` or `what to write instead` has the number of these in which mypy finds no error, as `90 of 102`
         the name of a row of left_out.json names one in which mypy finds an error, and the codes of its errors,
             with `none` for an error without one
+        a number is the line of an error in the module above, with the messages of both: see `told`
     modules: a block `python`, and directly after it a block `console` with lines `$ PROGRAM WORDS module.py`, each
         followed by what is printed. PROGRAM is pycheck, mypy or python3. Of a traceback the last line is shown, and of
         mypy nothing but `Success: no issues found in 1 source file` where it finds nothing, and else no summary.
@@ -42,6 +43,7 @@ from typing import Callable, Dict, Iterator, List, NamedTuple, Optional, Sequenc
 
 from .. import ROOT
 from ..words import Words
+from . import told
 
 SUCCESS = "Success: no issues found in 1 source file"
 VERSIONS = re.compile(r"those of mypy (\d[\d.]*\d)\s+and\s+Python (\d+\.\d+)")
@@ -217,9 +219,9 @@ class Programs:
         Path(self.folder, name).write_bytes(text)
         return name
 
-    def report(self, text: bytes) -> str:
+    def report(self, text: bytes, words: Sequence[str] = ()) -> str:
         """Returns the report of pycheck, or its refusal."""
-        status, said, error = run([self.pycheck, self.file(text)], self.folder)
+        status, said, error = run([self.pycheck, *words, self.file(text)], self.folder)
         if status not in (0, 1, 2):
             raise Failure(f"pycheck ends with status {status}: {error}")
         return error if status == 2 else said
@@ -333,10 +335,24 @@ class Comparison:
             for (_, command), lines in zip(asked, answers):
                 self.compare_mypy(command, lines or [SUCCESS])
 
+    def compare_told(self) -> None:
+        """Compares the rows that set what mypy says of an error beside what pycheck says, module by module."""
+        ends = [module.line for module in self.page.modules[1:]]
+        for module, end in zip(self.page.modules, [*ends, sys.maxsize]):
+            rows = told.rows_of([row for row in self.page.rows if module.line < row.line < end])
+            outputs = {command.program: command.output for command in module.commands}
+            shown = any(command.words[:1] == (told.DETAILS,) for command in module.commands)
+            if rows and not shown:
+                self.page.fault(rows[0].at, f"the module above has no answer of pycheck {told.DETAILS}")
+            elif shown:
+                said = told.said_of(outputs.get("mypy", []), outputs.get("pycheck", []))
+                for at, text in told.faults_of(rows, said, module.line):
+                    self.page.fault(at, text)
+
     def compare_whole(self, module: Module, command: Command) -> None:
         """Compares an answer of pycheck or of Python."""
         text = module.text.encode()
-        got = self.programs.ran(text) if command.program == "python3" else self.programs.report(text)
+        got = self.programs.ran(text) if command.program == "python3" else self.programs.report(text, command.words)
         want = command.output
         if command.program == "python3" and not self.same_python:
             want, got = without_message(want), "\n".join(without_message(got.splitlines()))
@@ -451,6 +467,7 @@ def compare(pycheck: str, file: Path, folder: Path) -> int:
     with tempfile.TemporaryDirectory() as work:
         comparison = Comparison(page, Programs(pycheck, work, page.config))
         comparison.compare_modules()
+        comparison.compare_told()
         comparison.compare_examples(folder)
         comparison.compare_left_out(folder / "left_out.json")
     if not comparison.answers or not comparison.examples:

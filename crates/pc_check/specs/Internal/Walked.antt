@@ -26,7 +26,7 @@ module _ {Store Ty : Type 0} (S : StoreOf Store Ty) where
   forked w last ways way = forked_with S.tree w.declared.now last ways way (notes_of w.found.now)
 
 module _ {Store Ty : Type 0} (S : StoreOf Store Ty) where
-  -- the walk is valid with this environment and this exit environment of the enclosing loop, if there are such: the
+  -- the walk is valid with this environment and this exit environment of the enclosing loop, where they exist: the
   -- store gave all types, all are well-formed, and names mean what the scopes say
   pub record StandsIn (w : Walk Store Ty) (env way : Option (List (Option Ty))) : Type 0 where
     pub context : HoldsContext (S.has w.store.now) S.tree w.context
@@ -40,7 +40,7 @@ module _ {Store Ty : Type 0} (S : StoreOf Store Ty) where
   ExitSubsumes w unsettled env way = WayTakesIn (class_parents w.context.globals.now) unsettled
       (option_map (env_of S.tree) way) (option_map (env_of S.tree) env)
 
-  -- the exit environment of the loop subsumes after statements that touch these locals whatever it subsumed before them
+  -- whatever the exit environment of a loop subsumes before statements that touch these locals, it subsumes after them
   abbrev pub StaysSettled : (old new : Walk Store Ty) → (touched : (List ℕ → NameMeaning) → List ℕ)
       → (unsettled later : List ℕ) → (env way out : Option (List (Option Ty))) → Type 0
   StaysSettled old new touched unsettled later env way out =

@@ -13,7 +13,7 @@ use Rattle.pc_tree.specs.declared.tree.ComparisonOperator.{ComparisonOperator}
 use Rattle.pc_tree.specs.declared.tree.ComparisonOperator.TheVariants as cmp
 use Rattle.pc_grammar.specs.Grammar.{Spelling, Nothing, Just, Named, ◌⟫◌}
 
--- ---- whether two kinds are the same
+-- ---- equality of kinds
 
 -- a number for each keyword
 abbrev pub keyword_number : Keyword → ℕ

@@ -10,11 +10,11 @@ use Rattle.pc_module_rules.specs.Computed.Modules.{module_notes}
 use Rattle.pc_module_rules.specs.NamesOfStatements.{NameAt}
 use Rattle.pc_module_rules.specs.NamesOfModules.{names_of_constants, names_in_bodies}
 
--- a bound name as notes have it: its place, its declared type, and its current type after the binding
+-- a bound name as a note has it: its place, its declared type, and its current type after the binding
 abbrev pub as_noted : NameAt → Place × Tree × Option Tree
 as_noted n = (n.place, n.declared, n.current)
 
--- the names whose types are by labels: constants, and the locals of bodies
+-- the names whose types come from labels: constants, and the locals of bodies
 abbrev pub names_by_labels : (m : Module) → Labelling m → List NameAt
 names_by_labels m labels = names_of_constants m m.items labels ++ names_in_bodies m 0 0 m.items labels
 

@@ -11,7 +11,7 @@ use Rattle.pc_operations.specs.declared.kinds.Kind.TheVariants as kinds
 use Rattle.pc_operations.specs.declared.kinds.KindOperator.{KindOperator}
 use Rattle.pc_operations.specs.declared.kinds.KindOperator.TheVariants as operators
 
--- the kind that two have in common, if they have one
+-- the kind that two kinds have in common, if they have one
 abbrev pub meet : Option Kind → Option Kind → Option Kind
 meet None d = None
 meet (Some whole_kind) (Some whole_kind) = Some whole_kind

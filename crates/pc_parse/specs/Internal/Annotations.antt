@@ -19,8 +19,7 @@ use Rattle.pc_reader.specs.Reading.{Blames, Came, Onward, IsReady, left_in}
 use Rattle.pc_parse.specs.declared.annotation.Annotation.{Annotation}
 use Rattle.pc_parse.specs.declared.annotation.Annotations.{Annotations}
 
--- the value keeps the annotation that these tokens spell; of one that is too deep, only its place and that it is too
--- deep
+-- the value keeps the annotation that these tokens spell; if it is too deep, only its place and that it is too deep
 pub record KeepsAnn (o : Annotation) (a : Ann) (ts : List Lexeme) : Type 0 where
   pub starts : Starts ts o.place.start
   pub ends : Ends ts o.place.end
@@ -38,7 +37,7 @@ pub record KeepsAnns (o : Annotations) (anns : Anns) : Type 0 where
   pub depth : o.depth ≡ min 65 (depth_over_anns anns)
   pub kept : o.depth ≤ 64 → trees_of_anns o.anns.items ≡ anns
 
--- the value is the annotation that any tokens between these bytes spell
+-- the value keeps the annotation that any tokens between these bytes spell
 abbrev pub MakesAnn : Annotation → (Place → Ann) → ℕ → ℕ → Type 0
 MakesAnn o make start end = (ts : List Lexeme) → Starts ts start → Ends ts end → KeepsAnn o (make (span ts)) ts
 

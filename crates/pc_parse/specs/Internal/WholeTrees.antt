@@ -21,17 +21,17 @@ use Rattle.pc_parse.specs.declared.parser.Parser.{Parser}
 
 -- ---- the first that is too deep
 
--- the first of these bytes that there is
+-- the first byte if there is one, otherwise the second
 abbrev pub sooner : Option ℕ → Option ℕ → Option ℕ
 sooner (Some byte) later = Some byte
 sooner None later = later
 
--- the first byte of one that is too deep, after these whole expressions and annotations
+-- the first byte of a tree that is too deep, after these whole expressions and annotations
 abbrev pub deep_after : Option ℕ → List Whole → Option ℕ
 deep_after deep ws = sooner deep (first_too_deep ws)
 
 -- the value keeps the tree, unless something was too deep by the time that it was read; `before` and `after` are the
--- first byte of one that is too deep, before and after
+-- first byte of a tree that is too deep, before and after the reading
 pub record KeepsTree {V T : Type 0} (of : V → T) (wholes : T → List Whole) (before after : Option ℕ) (value : V)
     (tree : T) : Type 0 where
   pub deep : after ≡ deep_after before (wholes tree)
@@ -39,12 +39,12 @@ pub record KeepsTree {V T : Type 0} (of : V → T) (wholes : T → List Whole) (
 
 -- ---- whole expressions and annotations
 
--- the end that a token with this effect is for a whole expression
+-- the way in which a token with this effect ends a whole expression
 abbrev pub ending_in : Follow → Ending
 ending_in (ends e) = e
 ending_in _ = no_ending
 
--- the end that a token of this kind is for a whole expression
+-- the way in which a token of this kind ends a whole expression
 abbrev pub ending_of : TokenKind → Ending
 ending_of k = ending_in (follow_of k)
 

@@ -5,14 +5,16 @@ use Rattle.std.specs.Prelude.{ℕ, ◌≡◌, ◌≤◌, ◌<◌, ◌⊎◌, Boo
 use Rattle.std.specs.Prelude.{MatchOption, MatchResult, Vec}
 use Rattle.std.specs.declared.alloc.Global.{Global}
 use Rattle.pc_source.specs.declared.fault.Fault.{Fault}
+use Rattle.pc_source.specs.declared.place.Place.{Place}
 use Rattle.pc_token.specs.declared.token.Token.{Token}
+use Rattle.pc_token.specs.declared.token.TokenKind.{TokenKind}
 use Rattle.pc_token.specs.declared.token.TokenKind.TheVariants as kind
 use Rattle.pc_token.specs.declared.token.Keyword.TheVariants as word
 use Rattle.pc_token.specs.declared.token.Operator.TheVariants as sign
 use Rattle.pc_token.specs.Lexeme.{Lexeme}
 use Rattle.pc_token.specs.declared.token.Operator.{Operator as Bracket}
 use Rattle.pc_tree.specs.declared.tree.Name.{Name as RustName}
-use Rattle.pc_tree.specs.Tree.{Name, Expr, Exprs, Keywords, no_keywords, name_of}
+use Rattle.pc_tree.specs.Tree.{Name, Expr, Exprs, no_exprs, Keywords, no_keywords, name_of}
 use Rattle.pc_grammar.specs.Grammar.{name_of_token, first_place}
 use Rattle.pc_grammar.specs.Machine.{at}
 use Rattle.pc_grammar.specs.Machine.Kinds.{Infix as Operator, Link as Joint, Follow, link, a_dot, calls, indexes}
@@ -30,6 +32,7 @@ use Rattle.pc_reader.specs.declared.operand.Infix.{Infix}
 use Rattle.pc_reader.specs.declared.items.Items.{Items}
 use Rattle.pc_reader.specs.declared.items.Listed.{Listed}
 use Rattle.pc_reader.specs.declared.items.Arguments.{Arguments}
+use Rattle.pc_reader.specs.declared.items.CallArguments.{CallArguments}
 use Rattle.pc_reader.specs.Internal.Brackets.{KeepsItems, KeepsKeywords}
 use Rattle.pc_reader.specs.Internal.Operands.{KeepsPart, Ends, infix_of, signs_on, starts_of, applied_all}
 use Rattle.pc_reader.specs.Reading.{Blames, Came, Onward, IsReady, IsAhead, NeedsKind, Takes, lexeme, left_in}
@@ -119,6 +122,21 @@ pub record HasAppliedSigns (x : Sign) (ts : List Lexeme) (p : Part) (o : Operand
   pub level_is : o'.level ≡ wrapped_level x back o.level
 
 module _ {X I : Type 0} (texts : TextOf X) (source : TokensOf I (Result (Token X) Fault)) where
+  -- the token ahead was taken, which stands at this place
+  pub record TakesAt (a b : Reader X I) (p : Place) : Type 0 where
+    pub token : Token X
+    pub takes : Takes texts source a b token
+    pub starts : token.place.start ≡ p.start
+    pub ends : token.place.end ≡ p.end
+
+  -- the token ahead was taken, which is of this kind and stands at this place
+  pub record TakesKindAt (k : TokenKind) (a b : Reader X I) (p : Place) : Type 0 where
+    pub token : Token X
+    pub takes : Takes texts source a b token
+    pub is : token.kind ≡ k
+    pub starts : token.place.start ≡ p.start
+    pub ends : token.place.end ≡ p.end
+
   -- an operand of at least this level was read, on any stack that fits
   pub record GivesOperand (fits : Stack → Type 0) (level : ℕ) (a b : Reader X I) (o : Operand) : Type 0 where
     pub part : Part
@@ -263,3 +281,26 @@ module _ {X I : Type 0} (texts : TextOf X) (source : TokensOf I (Result (Token X
   ReadsKeywords a b first r = MatchResult r (λ l. GivesKeywords a b first l)
       (λ e. Blames e (λ o. (f : Expr) (xs : Exprs) (ts : List Lexeme) (s : Stack)
       → Came texts.text source.next_gives a (at (operand (naming f xs no_keywords (name_of first) ts s))) o))
+
+  -- the arguments of a call of this operand were read, up to the closing parenthesis
+  pub record PassesOn (a b : Reader X I) (l : CallArguments) (e : Expr) (ts : List Lexeme) : Type 0 where
+    pub items : Exprs
+    pub arguments : Keywords
+    pub more : List Lexeme
+    pub keeps : KeepsItems l.items items
+    pub names : KeepsKeywords l.keywords arguments
+    pub ends : Ends more l.end
+    pub leads : (s : Stack) → Onward texts.text source.next_gives a b (at (item_due (in_call e) no_exprs ts s))
+        (at (have 7 (call_part e items arguments (ts ++ more)) s))
+
+  -- the arguments of a call were read, from after its opening parenthesis
+  pub record GivesArguments (a b : Reader X I) (l : CallArguments) : Type 0 where
+    pub ready : IsReady source.can_next source.remaining b
+    pub later : left_in source.remaining b < left_in source.remaining a
+    pub passes : (e : Expr) (ts : List Lexeme) → PassesOn a b l e ts
+
+  -- the arguments of a call were read up to the closing parenthesis, or the refusal is the machine's
+  abbrev pub ReadsArguments : Reader X I → Reader X I → Result CallArguments Fault → Type 0
+  ReadsArguments a b r = MatchResult r (λ l. GivesArguments a b l)
+      (λ e. Blames e (λ o. (f : Expr) (ts : List Lexeme) (s : Stack)
+      → Came texts.text source.next_gives a (at (item_due (in_call f) no_exprs ts s)) o))

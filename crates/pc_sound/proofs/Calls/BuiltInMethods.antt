@@ -45,7 +45,7 @@ use Rattle.pc_sound.proofs.Heap.HeapActions.{acting_safe}
 use Rattle.pc_sound.proofs.Calls.Arguments.{ArgumentsHave, KeywordsHave}
 use Rattle.pc_sound.proofs.Calls.OrdinaryCalls.{equal_safe, impossible_safe}
 
--- ---- which method is called
+-- ---- the method called
 
 -- a method of a list or a dict, with what it takes and gives
 pub data BuiltinCall (bases : Bases) (k : HeapTyping) (v : Value) : BuiltinMethod → Signature → Type 0 where
@@ -157,7 +157,7 @@ module _ (bases : Bases) (classes : List facts.ClassFacts) (k : HeapTyping) (s :
       go false is none = absurd (not_empty none)
   dict_named g word a b _ key h none = absurd h
 
--- ---- what a method does
+-- ---- outcomes of built-in methods
 
 module _ (bases : Bases) (k : HeapTyping) where
   all_get : (t : Tree) (vs : List Value) (i : ℕ) (v : Value) → AllHave bases k t vs → slice_get vs i ≡ Some v

@@ -25,7 +25,7 @@ use Rattle.pc_sound.specs.Arguments.{TakesNamed, Fills, AllFor}
 use Rattle.pc_sound.proofs.TruthValues.{not_both, or_in_turn}
 use Rattle.pc_sound.proofs.Calls.EntryFrames.{ParametersHave}
 
--- ---- what each parameter takes
+-- ---- the value of each parameter
 
 pub record Filled (bases : Bases) (k : HeapTyping) (ps : List TypedParameter) (o : Option (List Local)) : Type 0 where
   pub locals : List Local

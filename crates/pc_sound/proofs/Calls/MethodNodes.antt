@@ -136,7 +136,7 @@ module _ (m : Module) (inherits : Inherits (bases_of m) (classes_of m)) (constan
     → method_by_name (class_facts_at (classes_of m) c).methods word ≡ Some old → Dispatched m listed d word old)
     (owner_above : (c : ℕ) (q : Method) → IsIn (class_facts_at (classes_of m) c).methods q
     → Below (bases_of m) (tree.Class c) (tree.Class q.owner)) where
-  -- ---- what a callee `e.m` is
+  -- ---- callees `e.m`
 
   -- a method of a class, with what its type names
   pub record CallsMethod (offers : List CallOffer) (g : GivenArguments) (k : HeapTyping) (v : Value)

@@ -103,7 +103,7 @@ module _ (bases : Bases) where
         (same_flows q.parameters);
   }
 
--- ---- what is judged of overrides
+-- ---- judged overrides
 
 -- a method has the shape of each of these
 abbrev pub HasShapes : Method → List Method → Type 0

@@ -26,7 +26,7 @@ use Rattle.pc_tree.proofs.Among.{none_among}
 use Rattle.pc_sound.proofs.Examples.FindingLists.{Listing, equal_into}
 use Rattle.pc_sound.proofs.Examples.ExampleFindings.{none_stops}
 
--- ---- what each element of a list has, by its place
+-- ---- findings of the elements of a list, by their numbers
 
 abbrev pub each_from : {A : Type 0} → (ℕ → A → List Finding) → ℕ → List A → List Finding
 each_from g n [] = []

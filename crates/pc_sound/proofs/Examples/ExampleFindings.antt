@@ -188,7 +188,7 @@ module _ (m : Module) where
       (λ e. unknown_in b.owner e))) (bare_listed m.imports_dataclass)))
       unknown_to unknown_back
 
-  -- ---- what an initializer may not name
+  -- ---- names too early for an initializer
 
   pub is_within : (k i : ℕ) → nat_le k i ≡ true → k ≤ i
   is_within k i e = grind (arith, nat_tests)
@@ -262,7 +262,7 @@ module _ (m : Module) where
   early_listed = like (among_listed (numbers_below (length m.items)) (λ at. early_at at (slice_get m.items at)))
       early_to early_back
 
-  -- ---- what no run reaches
+  -- ---- unreachable statements
 
   abbrev pub unreachable_listed : Listing (IsUnreachable m)
   unreachable_listed = like (among_listed (bodies m) (λ b. among_listed (unreached_places b.function.body)

@@ -65,7 +65,7 @@ alone {A} x y c = go c.0 c.1 c.2
     go zero less is = is
     go (suc k) less is = absurd (omega (arith, less))
 
--- ---- what is found nowhere, at one place, by two rules
+-- ---- lists of no finding, of one, and of two rules
 
 abbrev pub none_listed : {P : Finding → Type 0} → ((f : Finding) → P f → ⊥) → Listing P
 none_listed never = record { all = []; into = λ f h. absurd (never f h); from = λ f c. absurd (none_among f c) }
@@ -96,7 +96,7 @@ abbrev pub like : {P Q : Finding → Type 0} → Listing P → ((f : Finding) �
     → Listing Q
 like p to back = record { all = p.all; into = λ f h. p.into f (back f h); from = λ f c. to f (p.from f c) }
 
--- ---- what stands at a place
+-- ---- findings at one place
 
 abbrev pub at_codes : Place → List Code → List Finding
 at_codes p [] = []

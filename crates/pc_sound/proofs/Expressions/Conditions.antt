@@ -72,7 +72,7 @@ pub record Reads (eval : Expr → Step Value) : Type 0 where
   pub read : (n : Name) (s s' : State) (events : List Place) (v : Value) → eval (name n) s events (Gives v) s'
       → (value_of_meaning (meaning_in_run n.text s) ≡ Gives v) × (s' ≡ s)
 
--- ---- what a run that came to a value says of its steps
+-- ---- steps of runs that came to a value
 
 pub went_on : {A B : Type 0} (m : Step A) (f : A → Step B) (s s' : State) (events : List Place) (b : B)
     → (m >>= f) s events (Gives b) s' → WentOn m f s events (Gives b) s'
@@ -486,7 +486,7 @@ module _ (around : Around) (ctx : Context) (fits : IsContextOf around ctx) (part
         λ b. shows_bind around _ _ _ _ _ (or_side m s here behind (λ f h. covered f (inr (inr h))) keyed.1.1 v b)
         λ w. ends_so p (disjunction p l r) m.here.type m.here.codes (λ f h. covered f (inl h)) w
 
-  -- ---- what is safe by that
+  -- ---- safety of `and` and `or`
 
   told_safe : (e : Expr) (t : Tree) → TellsSafely env e t (Node e) → IsSafe around env (λ k. Unit {0}) (Node e)
       (λ k v. HasType around.bases k t v)

@@ -44,7 +44,7 @@ use Rattle.pc_sound.proofs.Modules.PlacesInModules.{function_places}
 use Rattle.pc_sound.proofs.Calls.EntryFrames.{texts_append}
 use Rattle.pc_sound.proofs.Lists.{same_text_back}
 
--- ---- what is at the end of the items
+-- ---- constants and classes after the last item
 
 module _ (m : Module) (constants : List Tree) (listed : Place → Type 0) where
   pub last_types_are : (b : BeforeItem) (items : List Item) (labels : ModuleItemsLabels items)

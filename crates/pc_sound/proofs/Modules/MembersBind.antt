@@ -79,7 +79,7 @@ unreserved w e = go (builtin_of w) refl
     go None is = ap is_some is
     go (Some b) is = absurd (false≢true (sym e ∙ (ap keywords.is_reserved (text_of_builtin w b is) ∙ reserved_there b)))
 
--- ---- what a class holds
+-- ---- the members held of a class
 
 -- the name is held, by a field or by any member
 abbrev HoldsField : List HeldMember → List ℕ → Type 0

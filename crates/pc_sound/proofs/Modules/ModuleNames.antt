@@ -13,7 +13,7 @@ use Rattle.pc_value.specs.Texts.{same_text}
 use Rattle.pc_machine.specs.State.{Global, Globals, GlobalBinding}
 use Rattle.pc_machine.specs.Names.{global_by_name}
 
--- ---- what is bound
+-- ---- names among the globals
 
 pub bound_more : (word : List ℕ) (globals : Globals) (g : Global) (b : GlobalBinding) → global_by_name word globals
     ≡ Some b → global_by_name word (globals ++ g ∷ []) ≡ Some b
@@ -68,7 +68,7 @@ functions_append (constant_item p c ∷ xs) ys = functions_append xs ys
 functions_append (class_item p c ∷ xs) ys = functions_append xs ys
 functions_append (def_item p f ∷ xs) ys = ap (λ l. f ∷ l) (functions_append xs ys)
 
--- ---- what a name means
+-- ---- meanings of names
 
 -- the constant, function or class of a number has the name
 pub record ConstantNamed (k f c : ℕ) (items : List Item) (word : List ℕ) (i : ℕ) : Type 0 where

@@ -207,7 +207,7 @@ module _ (m : Module) (labels : Labelling m) (lawful : IsLawful m labels) (clean
       → AreJudged m (IsListedPlace m) (base_class m c class) c 0 [] class.members
   judged c class is = judged_members c class is [] class.members refl
 
-  -- ---- what is left
+  -- ---- the remaining premises
 
   -- of a module without silent errors: its classes can be made, and the labels of its initializers have keyed dicts
   pub record Left : Type 0 where

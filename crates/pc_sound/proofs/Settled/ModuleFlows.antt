@@ -49,7 +49,7 @@ use Rattle.pc_sound.proofs.Settled.BodyFlows.{suite_flows}
 use Rattle.pc_sound.proofs.Modules.ModuleNames.{class_named}
 use Rattle.pc_sound.proofs.Modules.TimelyBodies.{NamesTimely, all_timely}
 
--- ---- what flows in items
+-- ---- flows in items
 
 module _ (asked : Asked) where
   literal_settled : (l : Literal) → IsSettled asked (literal_type l)

@@ -248,7 +248,7 @@ module _ (asked : Asked) where
               (k, labels_settled asked ctx declared settled env ek None tt i (timely i) target.key law.key);
         }
 
-    -- ---- what a `for` goes over, and its target
+    -- ---- the iterable of a `for`, and its target
 
     pub record IterableSettled (e : Expr) (labels : Labels e) (item : Label) : Type 0 where
       pub settled_labels : Settled asked e labels

@@ -27,7 +27,7 @@ use Rattle.pc_sound.proofs.Settled.SettledTypes.{OptionSettled, either_settled, 
 use Rattle.pc_sound.proofs.Settled.SettledOperations.{append_settled, key_settled}
 
 module _ (asked : Asked) where
-  -- ---- what an expression is labelled from
+  -- ---- settled contexts
 
   abbrev pub ParametersSettled : List TypedParameter → Type 0
   ParametersSettled [] = Unit {0}

@@ -19,7 +19,7 @@ use Rattle.pc_sound.proofs.Settled.SettledOperations.{listed_settled, key_settle
 use Rattle.pc_sound.proofs.Settled.SettledOperations.{contain_settled, length_settled, pairs_settled}
 
 module _ (asked : Asked) where
-  -- ---- what is expected of the parts of a display
+  -- ---- expected types of the parts of a display
 
   pub list_item_settled : (ms : List Tree) → EachSettled asked ms → OptionSettled asked (list_item ms)
   list_item_settled [] h = tt

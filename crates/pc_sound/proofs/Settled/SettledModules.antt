@@ -231,7 +231,7 @@ module _ (asked : Asked) where
     unfolding signatures_of
     functions_settled i s e = one_signature (functions_in m.items) i s e
 
-    -- ---- what expressions are labelled from
+    -- ---- contexts of bodies and initializers
 
     -- a class that a name means in a body is one that it means in the module
     among_asked : (names : List (List ℕ)) → NamesAsked asked (resolve_among m names)

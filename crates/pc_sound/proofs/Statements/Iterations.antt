@@ -132,7 +132,7 @@ module _ (bases : Bases) where
       go true = h k (pos i)
       go false = tt
 
-  -- ---- what a value gives to go over
+  -- ---- iterations over values
 
   -- the member that a value is of, its place, and that nothing is found on it
   record ChosenAt (k : HeapTyping) (offer : Tree → Offer) (ms : List Tree) (v : Value) : Type 0 where

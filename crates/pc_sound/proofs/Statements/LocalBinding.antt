@@ -100,7 +100,7 @@ evaluated_safe {A} around env known p m P (c ∷ cs) allowed evaluates h = recor
           kept.ends))
     ]
 
--- ---- what is bound
+-- ---- values assigned to a local
 
 -- where a code is found at the flow, a local has its declared type after it
 pub assigned_found : (d from : Tree) (c : Code) → assigned_type d from (Some c) ≡ d

@@ -150,7 +150,7 @@ module _ (around : Around) (ctx : Context) (fits : IsContextOf around ctx) (m : 
       grow (good.safe env None e labels law covered keyed))))
       λ v. rest
 
-  -- ---- where to go on
+  -- ---- `pass`, `break` and `continue`
 
   pub pass_runs : (p : Place) → GoodStmt around ctx m returned (pass p) (exec_node Step free parts (pass p))
   pass_runs p = record {

@@ -93,7 +93,7 @@ pub record IsSafe (around : Around) (env : Env) (known : HeapTyping → Type 0) 
   pub run : (k : HeapTyping) (s s' : State) (events : List Place) (out : Out A) → known k → IsWellTyped around env k s
       → m s events out s' → HasListed around.listed events ⊎ KeepsState around P k s out s'
 
--- ---- what is around a body, and what its expressions may name
+-- ---- the context of a body
 
 -- both speak of the same classes and of the same locals
 pub record IsContextOf (around : Around) (ctx : Context) : Type 0 where

@@ -13,7 +13,7 @@ use Rattle.pc_sound.specs.Needed.{HasNoNever, HaveNoNever}
 use Rattle.pc_sound.proofs.Values.Requirements.{required, required_by_each, Records, records_first, records_second}
 use Rattle.pc_sound.proofs.Values.Requirements.{place_of}
 
--- ---- what is recorded of a location is one thing
+-- ---- the one type recorded of a location
 
 list_or_class : {t : Tree} {c : ℕ} → a_list t ≡ a_class c → ⊥
 list_or_class e = cc

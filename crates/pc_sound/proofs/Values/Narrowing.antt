@@ -236,7 +236,7 @@ module _ (bases : Bases) (ordered : AreSmaller bases) (k : HeapTyping) where
       go true is e = subst (λ u. HasType bases k u v) (equal_type m c t is) h
       go false is e = absorbed c m t e v h
 
-  -- ---- what is left of a member
+  -- ---- members that pass or fail a test
 
   member_within_has : (c m : Tree) → IsTestedType c → IsFollowed m → (v : Value) → HasType bases k m v
       → HasType bases k c v → OptionHas bases k (member_within bases c m) v

@@ -56,7 +56,7 @@ IsBracketFault Opens brackets code = (code ≡ L6) × (bracket_limit ≤ length 
 IsBracketFault (Closes opener) brackets code = (code ≡ L5) × (innermost brackets ≡ Some opener → ⊥)
 IsBracketFault Plain brackets code = ⊥
 
--- the reading goes over this token and adds it
+-- the reading is after this token, which is added to the line
 pub record TakesToken (old new : LineLexer) (found : FoundToken) : Type 0 where
   pub text : new.text.now ≡ old.text.now
   pub at : new.at ≡ found.end

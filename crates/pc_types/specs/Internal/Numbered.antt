@@ -1,4 +1,4 @@
--- Bases told by numbers alone, which are compared sooner: private to this crate.
+-- Bases as plain numbers, which are faster to compare: private to this crate.
 -- Own rule of the profile.
 use Rattle.std.specs.Prelude.{◌≡◌, ℕ, List, slice_get, Some, unwrap_or}
 use Rattle.pc_types.specs.Below.{Bases, base_of}
@@ -7,6 +7,6 @@ use Rattle.pc_types.specs.Below.{Bases, base_of}
 abbrev pub base_number : Bases → ℕ → ℕ
 base_number bases c = unwrap_or (base_of bases c) c
 
--- the number of each class that has one tells its base
+-- the number at a class's index is that of its base, or its own if it has no base
 abbrev pub AreNumbers : Bases → List ℕ → Type 0
 AreNumbers bases numbers = (c n : ℕ) → slice_get numbers c ≡ Some n → n ≡ base_number bases c

@@ -12,6 +12,9 @@ pub trait ReportMaker {
     /// Returns the same with types in boxes.
     fn by_boxes(&self, alloc: Global, bytes: &[u8], format: Format) -> Result<String, AllocError>;
 
+    /// Returns the text of its report of bytes with details, or of its refusal.
+    fn explained(&self, alloc: Global, bytes: &[u8]) -> Result<String, AllocError>;
+
     /// Checks a stream and writes its report, as JSON or as text. Returns the counts of the report, as its last line
     /// has them, or the text of the fault.
     fn of_stream<R: Read + Drop, W: Write + Drop>(

@@ -66,6 +66,24 @@ fn case_of(alloc: Global, lines: &str) -> Result<Case, TableFault> {
     Ok(case)
 }
 
+/// Counts the modules of a table whose reports have details.
+pub fn count_details<C: ReportMaker>(
+    alloc: Global,
+    table: &str,
+    checker: &C,
+    tally: &mut Tally,
+) -> Result<(), TableFault> {
+    for lines in table.split(BETWEEN) {
+        let lines = written_out(alloc, lines)?;
+        let case = case_of(alloc, lines.as_str())?;
+        let got = checker.explained(alloc, case.text.as_bytes())?;
+        let (report, errors, dynamic) = (case.report.as_str(), case.errors, case.dynamic);
+        let want = format!(in alloc; "{report}errors {errors}, dynamic {dynamic}\n")?;
+        tally.count(case.text.as_str(), want.as_str(), got.as_str())?;
+    }
+    Ok(())
+}
+
 /// Counts the modules of a table whose reports are in this format.
 pub fn count_modules<C: ReportMaker>(
     alloc: Global,

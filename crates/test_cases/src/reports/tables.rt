@@ -3,7 +3,7 @@ use crate::reports::checker::ReportMaker;
 use crate::reports::findings::forms_text;
 use crate::reports::forms::count_forms;
 use crate::reports::listings::listed_text;
-use crate::reports::modules::count_modules;
+use crate::reports::modules::{count_details, count_modules};
 use crate::reports::stores::count_stores;
 use crate::reports::streams::count_streams;
 use crate::reports::texts::{end_text, fault_text, report_text};
@@ -68,6 +68,7 @@ pub fn judge<C: ReportMaker>(
     match kind {
         "modules" => count_modules(alloc, table, Format::One, checker, tally),
         "explained" => count_modules(alloc, table, Format::Two, checker, tally),
+        "details" => count_details(alloc, table, checker, tally),
         "stores" => count_stores(alloc, table, checker, tally),
         "streams" => count_streams(alloc, table, checker, tally),
         "forms" => count_forms(alloc, table, checker, tally),

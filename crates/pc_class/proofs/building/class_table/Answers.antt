@@ -7,7 +7,7 @@ use Rattle.pc_scope.specs.Bindings.{classes_in}
 use Rattle.pc_tree.specs.Code.{at_code}
 use Rattle.pc_types.specs.Below.{Bases}
 use Rattle.pc_annotations.specs.Bases.{bases_of}
-use Rattle.pc_class.specs.Annotated.{classes_annotated, member_annotations}
+use Rattle.pc_class.specs.Annotated.{member_annotations}
 use Rattle.pc_class.specs.Entries.{missing_bases}
 use Rattle.pc_class.specs.Built.{found_behind, annotated_behind, class_findings}
 use Rattle.pc_class.specs.Facts.{ClassFacts}
@@ -23,23 +23,22 @@ returns-clause-found g c =
     let m = module_of c.args.tree.now in
     let old = c.args.found.now.items in
     let cs = classes_in m.items in
-    let of_names : c.read_classes.new.found.items ≡ old ++ class_findings m = c.in_ok-parts.ensures.found
-    ∙ ap (λ (fs : List Finding). fs ++ found_behind m [] 0 cs) (c.in_ok-find_missing_bases.ensures
+    let missing = at_code E07 (missing_bases (bases_of m) 0 cs) in
+    let late = found_behind m [] 0 cs in
+    let annotated = annotated_behind m [] 0 cs in
+    let bases : c.find_missing_bases.new.found.items ≡ old ++ missing = c.in_ok-find_missing_bases.ensures
     ∙ ap (λ (xs : List RustItem). old ++ at_code E07 (missing_bases c.in_ok-parents.parents 0
     (classes_in (map item_of xs)))) c.deref.ensures.value
-    ∙ ap (λ (bs : Bases). old ++ at_code E07 (missing_bases bs 0 cs)) c.in_ok-parents.ensures)
-    ∙ append_assoc old (at_code E07 (missing_bases (bases_of m) 0 cs)) (found_behind m [] 0 cs)
-    ∙ ap (λ (fs : List Finding). old ++ (at_code E07 (missing_bases (bases_of m) 0 cs) ++ fs)) (found_listed m) in
-    let annotated : c.read_classes.new.in_annotations.items ≡ classes_annotated m 0 cs =
-    c.in_ok-parts.ensures.annotated ∙ ap (λ (fs : List Finding). fs ++ annotated_behind m [] 0 cs)
-    c.new-in_annotations.ensures.items ∙ annotated_listed m in
-    c.in_ok-extend_from_slice.ensures.items
-    ∙ (λ i. of_names i ++ (c.deref-2.ensures.value ∙ annotated) i)
-    ∙ append_assoc old (class_findings m) (classes_annotated m 0 cs)
+    ∙ ap (λ (bs : Bases). old ++ at_code E07 (missing_bases bs 0 cs)) c.in_ok-parents.ensures in
+    c.in_ok-parts.ensures.found
+    ∙ ap (λ (fs : List Finding). fs ++ (late ++ annotated)) bases
+    ∙ append_assoc old missing (late ++ annotated)
+    ∙ ap (λ (fs : List Finding). old ++ fs) (sym (append_assoc missing late annotated))
+    ∙ (λ i. old ++ ((missing ++ found_listed m i) ++ annotated_listed m i))
 
 pub returns-clause-given : goal.returns-clause-given
-returns-clause-given g c = subst (HasEntries (g.S.TypeStore.has c.read_classes.new.store)) (sym c.of.ensures)
-    (table_given (g.S.TypeStore.has c.read_classes.new.store) c.in_ok-parts.parts c.in_ok-parts.ensures.given)
+returns-clause-given g c = subst (HasEntries (g.S.TypeStore.has c.read_parts.new.store)) (sym c.of.ensures)
+    (table_given (g.S.TypeStore.has c.read_parts.new.store) c.in_ok-parts.parts c.in_ok-parts.ensures.given)
 
 pub of-requires-clause-parents : goal.of-requires-clause-parents
 of-requires-clause-parents g c =

@@ -28,8 +28,10 @@ returns-in_default c =
     (c.in-Ok.ensures.matches (ap is_simple app_is ∙ simple)).0 ∙ ap (λ a. matches_of a words) app_is in
     let listing_is = value_read c.in-Ok.matches (codes "types") words _ _ _ c.unwrap_or.ensures c.get_str.ensures rows
     refl in
+    let telling_is = value_read c.in-Ok.matches (codes "details") words _ _ _ c.unwrap_or-2.ensures
+    c.get_str-2.ensures rows refl in
     let number_is = word_read c.in-Ok.matches words _ c.get_str-number.ensures rows in
-    let nothing = misses words _ _ _ none listing_is number_is c.eq-types.ensures
+    let nothing = misses words _ _ _ _ _ none listing_is telling_is number_is c.eq-types.ensures c.eq-details.ensures
     (sym c.format_asked.ensures ∙ c.in_default.is) in
     let said = number_at_fault words c.format_fault.result none nothing c.format_fault.ensures in
     record { read = tt; plain = plain_words words; none = said.0; which = said.1 }
@@ -44,13 +46,15 @@ returns-clause-read c =
     (c.in-Ok.ensures.matches (ap is_simple app_is ∙ simple)).0 ∙ ap (λ a. matches_of a words) app_is in
     let listing_is = value_read c.in-Ok.matches (codes "types") words _ _ _ c.unwrap_or.ensures c.get_str.ensures rows
     refl in
+    let telling_is = value_read c.in-Ok.matches (codes "details") words _ _ _ c.unwrap_or-2.ensures
+    c.get_str-2.ensures rows refl in
     let number_is = word_read c.in-Ok.matches words _ c.get_str-number.ensures rows in
-    let flag_is = value_read c.in-Ok.matches (codes "json") words _ _ _ c.unwrap_or-2.ensures c.get_str-2.ensures rows
+    let flag_is = value_read c.in-Ok.matches (codes "json") words _ _ _ c.unwrap_or-3.ensures c.get_str-3.ensures rows
     refl in
-    let file_is = value_read c.in-Ok.matches (codes "file") words _ _ _ c.unwrap_or-3.ensures c.get_str-3.ensures rows
+    let file_is = value_read c.in-Ok.matches (codes "file") words _ _ _ c.unwrap_or-4.ensures c.get_str-4.ensures rows
     refl in
-    gives words _ _ _ _ _ _ _ _ none flag_is listing_is number_is file_is c.eq-json.ensures c.eq-types.ensures
-    (sym c.format_asked.ensures ∙ c.in-Some.is) c.in_ok-file.ensures.ok
+    gives words _ _ _ _ _ _ _ _ _ _ none flag_is listing_is telling_is number_is file_is c.eq-json.ensures
+    c.eq-types.ensures c.eq-details.ensures (sym c.format_asked.ensures ∙ c.in-Some.is) c.in_ok-file.ensures.ok
 
 pub returns-clause-plain : goal.returns-clause-plain
 returns-clause-plain c = plain_words (map (λ w. w.now) c.args.words.now)

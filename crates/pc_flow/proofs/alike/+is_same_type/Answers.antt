@@ -1,11 +1,11 @@
-use Rattle.std.proofs.Common.{rules, ◌≡◌, ◌∙◌, ◌<◌, length, sym, arith}
-use Rattle.pc_flow.proofs.SameTypes.{given_at, fewer_at, as_many, all_same, one_more_same}
+use Rattle.std.proofs.Common.{◌∙◌, ◌<◌, length, sym, arith}
+use Rattle.pc_flow.proofs.SameTypes.{same_heads, given_at, fewer_at, as_many, all_same, one_more_same}
 use Rattle.pc_flow.proofs.alike.+is_same_type.Goals as goal
 
 pub index-requires-in-loop-part : goal.index-requires-in-loop-part
 index-requires-in-loop-part g t c =
     let tree = g.S.TypeStore.tree in
-    let heads : c.head-head.result ≡ c.head.result = search rules in
+    let heads = same_heads c.head-head.result c.head.result (sym c.ne.ensures ∙ c.if-ne.false) in
     let many = as_many tree c.in_ok-left.left.items c.in_ok-right.right.items (tree c.args.s.now) (tree c.args.t.now)
     c.in_ok-left.ensures.value c.in_ok-right.ensures.value c.head-head.result c.head.result c.head-head.ensures.parts
     c.head.ensures.parts heads in
@@ -17,7 +17,7 @@ is_same_type-requires g t c κs within =
     let has = g.S.TypeStore.has c.args.store.now in
     let left = c.in_ok-left.left.items in
     let right = c.in_ok-right.right.items in
-    let heads : c.head-head.result ≡ c.head.result = search rules in
+    let heads = same_heads c.head-head.result c.head.result (sym c.ne.ensures ∙ c.if-ne.false) in
     let many = as_many tree left right (tree c.args.s.now) (tree c.args.t.now)
     c.in_ok-left.ensures.value c.in_ok-right.ensures.value c.head-head.result c.head.result c.head-head.ensures.parts
     c.head.ensures.parts heads in
@@ -45,7 +45,7 @@ loop-part-preserved g t c =
     let tree = g.S.TypeStore.tree in
     let left = c.in_ok-left.left.items in
     let right = c.in_ok-right.right.items in
-    let heads : c.head-head.result ≡ c.head.result = search rules in
+    let heads = same_heads c.head-head.result c.head.result (sym c.ne.ensures ∙ c.if-ne.false) in
     let many = as_many tree left right (tree c.args.s.now) (tree c.args.t.now)
     c.in_ok-left.ensures.value c.in_ok-right.ensures.value c.head-head.result c.head.result c.head-head.ensures.parts
     c.head.ensures.parts heads in
@@ -61,7 +61,7 @@ returns g t c =
     let tree = g.S.TypeStore.tree in
     let normal = g.met.S.TypeStore.normal c.args.store.now in
     let left = c.in_ok-left.left.items in
-    let heads : c.head-head.result ≡ c.head.result = search rules in
+    let heads = same_heads c.head-head.result c.head.result (sym c.ne.ensures ∙ c.if-ne.false) in
     let many = as_many tree left c.in_ok-right.right.items (tree c.args.s.now) (tree c.args.t.now)
     c.in_ok-left.ensures.value c.in_ok-right.ensures.value c.head-head.result c.head.result c.head-head.ensures.parts
     c.head.ensures.parts heads in

@@ -1,6 +1,6 @@
 use Rattle.std.proofs.Common.{◌≡◌, ◌+◌, min, take, length, ◌∙◌}
 use Rattle.std.specs.Prelude.{nat_lt}
-use Rattle.pc_flow.proofs.Given.{keeps_both}
+use Rattle.pc_flow.proofs.Given.{each_kept, keeps_both}
 use Rattle.pc_flow.proofs.Loops.{one_more_below, none_below, join_begins, join_goes_on, join_ends}
 use Rattle.pc_flow.proofs.joining.join_env.Goals as goal
 
@@ -15,6 +15,21 @@ loop-local-init g c =
           c.min-locals.result c.first-met.result none_below few (c.first-met.ensures
           ∙ (λ i. take c.min-locals.result (copy i))) c.requires.left,
     )
+
+pub set_joined-requires-clause-declared : goal.set_joined-requires-clause-declared
+set_joined-requires-clause-declared g c = each_kept g.S.TypeStore.has _ _ c.loop-local.invariant.0
+    c.args.declarations.now.declared.now c.requires.declared
+
+pub set_joined-requires-clause-left : goal.set_joined-requires-clause-left
+set_joined-requires-clause-left g c = each_kept g.S.TypeStore.has _ _ c.loop-local.invariant.0 c.args.a.now
+    c.requires.left
+
+pub set_joined-requires-clause-right : goal.set_joined-requires-clause-right
+set_joined-requires-clause-right g c = each_kept g.S.TypeStore.has _ _ c.loop-local.invariant.0 c.args.b.now
+    c.requires.right
+
+pub set_joined-requires-clause-met : goal.set_joined-requires-clause-met
+set_joined-requires-clause-met g c = c.loop-local.invariant.1.given
 
 pub loop-local-preserved : goal.loop-local-preserved
 loop-local-preserved g c =

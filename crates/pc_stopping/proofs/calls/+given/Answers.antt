@@ -31,7 +31,7 @@ find_given-returns-in-Dict t c = rw c.in-Dict.is
 pub find_given-returns-in_ok-find_given_again-in-Call : goal.find_given-returns-in_ok-find_given_again-in-Call
 find_given-returns-in_ok-find_given_again-in-Call t c =
     let r = c.find_given_in_values.result in
-    let one = c.find_given-in-Call.new.found.items in
+    let one = c.find_given.new.found.items in
     let two = c.find_given_in_all-in-Call.new.found.items in
     let three = c.find_given_again.new.found.items in
     let four = c.find_given_in_values.new.found.items in

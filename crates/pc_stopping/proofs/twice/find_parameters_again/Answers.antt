@@ -1,24 +1,16 @@
-use Rattle.std.proofs.Common.{◌≡◌, ◌++◌, ◌∙◌, ap, map, subst, append-nil, List, ℕ}
+use Rattle.std.proofs.Common.{◌≡◌, ◌++◌, ◌∙◌, ap, map, subst, List}
 use Rattle.std.specs.Prelude.{OnOk}
-use Rattle.pc_source.specs.declared.place.Place.{Place}
 use Rattle.pc_tree.specs.declared.code.Code.TheVariants.{E01}
 use Rattle.pc_tree.specs.Lists.{name_seen}
-use Rattle.pc_tree.specs.Tree.{param_of}
-use Rattle.pc_tree.specs.Stopping.{is_among, bound_again, name_of_param, self_before}
+use Rattle.pc_tree.specs.Tree.{Name, param_of}
+use Rattle.pc_tree.specs.Stopping.{bound_again, name_of_param, self_before}
 use Rattle.pc_tree.specs.Code.{at_code}
-use Rattle.pc_tree.specs.Names.{text_seen, texts_in}
-use Rattle.pc_stopping.proofs.Passed.{same_again}
 use Rattle.pc_stopping.proofs.twice.find_parameters_again.Goals as goal
 
 pub returns : goal.returns
 returns c =
     let names = c.in_ok-add_params.ensures ∙ ap (λ ns. map name_seen ns ++ map name_of_param
     (map param_of c.args.params.now)) c.new-names.ensures.items in
-    let none = ap (map text_seen) c.with_hasher-before.ensures.empty in
-    let before = λ (t : List ℕ). c.in_ok-put_self.ensures t ∙ ap (λ ts. is_among (self_before c.args.is_method ++ ts) t)
-    none ∙ ap (λ ts. is_among ts t) (append-nil (self_before c.args.is_method)) in
-    subst (λ (ps : List Place). OnOk c.find_bound_again.result (c.find_bound_again.new.found.items
-    ≡ c.args.found.now.items ++ at_code E01 ps))
-    (same_again (texts_in c.put_self.new.before) (self_before c.args.is_method) before
-    (map name_seen c.add_params.new.names.items) ∙ ap (bound_again (self_before c.args.is_method)) names)
-    (rw c.deref.ensures.value at c.find_bound_again.ensures)
+    subst (λ (ns : List Name). OnOk c.find_named_again.result (c.find_named_again.new.found.items
+    ≡ c.args.found.now.items ++ at_code E01 (bound_again (self_before c.args.is_method) ns))) names
+    (rw c.deref.ensures.value at c.find_named_again.ensures)

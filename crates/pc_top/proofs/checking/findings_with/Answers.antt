@@ -13,7 +13,7 @@ use Rattle.pc_top.proofs.BesideErrors.{beside_errors}
 use Rattle.pc_top.proofs.ModuleFindings.{exactly, same_flows, told_flows}
 use Rattle.pc_top.proofs.checking.findings_with.Goals as goal
 
--- what is found by the table of classes
+-- the findings made with the class table: about classes, and in the annotations of their members
 abbrev of_tables : Module → List Finding
 of_tables m = class_findings m ++ member_annotations m
 

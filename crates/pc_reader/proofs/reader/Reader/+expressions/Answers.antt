@@ -11,22 +11,23 @@ use Rattle.pc_grammar.specs.Machine.States.{listing, indexing, naming, keying, v
 use Rattle.pc_grammar.specs.Machine.States.{group_due}
 use Rattle.pc_grammar.specs.Machine.States.{item_due, keyword_due, keyword_named, key_due}
 use Rattle.pc_grammar.specs.Machine.Finishing.{add_keyword}
-use Rattle.pc_grammar.specs.Machine.Expressions.{bare_part, joined, grouped, call_part}
+use Rattle.pc_grammar.specs.Machine.Expressions.{bare_part, joined, grouped}
 use Rattle.pc_reader.specs.Internal.Operands.{infix_of, signs_on, applied_all}
 use Rattle.pc_reader.specs.Reading.{lexeme, Came}
 use Rattle.pc_reader.specs.Internal.Expressions.{NextIs, Over, Undotted}
-use Rattle.pc_reader.proofs.Building.{first_more, starts_more, starts_one, ends_more, ends_one, keeps_grouped}
+use Rattle.pc_reader.proofs.Building.{first_more, starts_more, starts_at, ends_more, ends_at, keeps_grouped}
 use Rattle.pc_reader.proofs.Building.{named_alike}
 use Rattle.pc_reader.proofs.Endings.{needs_end, group_unended, index_unended, keyword_unended, key_unended}
 use Rattle.pc_reader.proofs.Endings.{value_unended, item_unended, argument_unended, closer_is, not_closer}
 use Rattle.pc_reader.proofs.Frames.{own_low}
 use Rattle.pc_reader.proofs.Joining.{has_link, joins, signs_join, over_sign, over_any, low_undotted}
 use Rattle.pc_reader.proofs.Listing.{item_begins, group_begins, key_begins, items_none, item_read, item_more, item_last}
-use Rattle.pc_reader.proofs.Listing.{items_end, bracketed, called_with}
+use Rattle.pc_reader.proofs.Listing.{items_end, bracketed, passes_items, called_with}
 use Rattle.pc_reader.proofs.Naming.{needs_name, keyword_begins, keyword_stuck, names_none, argument_read, argument_more}
-use Rattle.pc_reader.proofs.Naming.{argument_last, arguments_end, name_read, names_more}
+use Rattle.pc_reader.proofs.Naming.{argument_last, arguments_end, name_read, names_more, passes_names}
 use Rattle.pc_reader.proofs.Pairing.{key_read, value_due, value_read, entry_more, entry_last, entries_end}
-use Rattle.pc_reader.proofs.Primaries.{behind_signs, minus_undotted, dot_turn, call_turn, index_turn, goes_on, index_on}
+use Rattle.pc_reader.proofs.Primaries.{behind_signs, minus_undotted, dot_turn, call_turn, index_turn, goes_on}
+use Rattle.pc_reader.proofs.Primaries.{indexed_with}
 use Rattle.pc_reader.proofs.Primaries.{unsigned_reads}
 use Rattle.pc_reader.proofs.Signs.{signs_rank_is, sign_turn, applied_tokens, minus_high}
 use Rattle.pc_reader.proofs.Steps.{same_place, step_to, needs, kind_seen, not_seen, on_result}
@@ -43,176 +44,145 @@ atom-returns-in_err-items-clause-reads g t c = let p = err_from_is_err_and c.fro
     c.from_residual-in_err-items.ensures.1 in
     rw (p.1, p.2)
     (blame (λ o w. λ s r. step_to (operand s) (item_due in_list no_exprs
-    ((lexeme g.X.AsStr.text c.in_ok-open.open) ∷ []) s) c.in_ok-open.ensures
-    (ap (transition (operand s) (lexeme g.X.AsStr.text c.in_ok-open.open))
+    ((lexeme g.X.AsStr.text c.in_ok-open.ensures.token) ∷ []) s) c.in_ok-open.ensures.takes
+    (ap (transition (operand s) (lexeme g.X.AsStr.text c.in_ok-open.ensures.token))
     (kind_seen (kind.Operator sign.LeftBracket) (sym c.sees-2.ensures ∙ c.if-sees-2.true)
-    c.in_ok-open.ensures.here)) o (w in_list no_exprs ((lexeme g.X.AsStr.text c.in_ok-open.open) ∷ []) s refl))
+    c.in_ok-open.ensures.takes.here)) o (w in_list no_exprs ((lexeme g.X.AsStr.text c.in_ok-open.ensures.token) ∷ []) s
+    refl))
     c.in_err-items.ensures)
 
 pub atom-returns-then-sees-2-clause-reads : goal.atom-returns-then-sees-2-clause-reads
 atom-returns-then-sees-2-clause-reads g t c = let n = c.in_ok-items.ensures in
     bracketed g.X.AsStr g.I.Iterator in_list no_exprs
-    ((lexeme g.X.AsStr.text c.in_ok-open.open) ∷ []) (n.lists in_list no_exprs
-    ((lexeme g.X.AsStr.text c.in_ok-open.open) ∷ []) refl c.new.ensures)
-    (starts_one (lexeme g.X.AsStr.text c.in_ok-open.open) [])
-    (λ u e. same_place c.in_ok-open.ensures.here e) (λ s r. step_to (operand s)
-    (item_due in_list no_exprs ((lexeme g.X.AsStr.text c.in_ok-open.open) ∷ []) s) c.in_ok-open.ensures
-    (ap (transition (operand s) (lexeme g.X.AsStr.text c.in_ok-open.open))
+    ((lexeme g.X.AsStr.text c.in_ok-open.ensures.token) ∷ []) (n.lists in_list no_exprs
+    ((lexeme g.X.AsStr.text c.in_ok-open.ensures.token) ∷ []) refl c.new.ensures)
+    (starts_at (lexeme g.X.AsStr.text c.in_ok-open.ensures.token) [] c.in_ok-open.ensures.starts)
+    (λ u e. same_place c.in_ok-open.ensures.takes.here e) (λ s r. step_to (operand s)
+    (item_due in_list no_exprs ((lexeme g.X.AsStr.text c.in_ok-open.ensures.token) ∷ []) s) c.in_ok-open.ensures.takes
+    (ap (transition (operand s) (lexeme g.X.AsStr.text c.in_ok-open.ensures.token))
     (kind_seen (kind.Operator sign.LeftBracket) (sym c.sees-2.ensures ∙ c.if-sees-2.true)
-    c.in_ok-open.ensures.here))) c.list.ensures.0 c.list.ensures.1 n.ready
-    (omega (arith, c.in_ok-open.ensures.later, n.later))
+    c.in_ok-open.ensures.takes.here))) c.list.ensures.0 c.list.ensures.1 n.ready
+    (omega (arith, c.in_ok-open.ensures.takes.later, n.later))
 
-pub call-loop-self-init : goal.call-loop-self-init
-call-loop-self-init g t c = record {
-  ready = c.requires.ready;
+pub arguments-loop-self-init : goal.arguments-loop-self-init
+arguments-loop-self-init g t c = record {
+  ready = c.requires;
   later = omega arith;
   arguments =
       λ e ts. items_none g.X.AsStr g.I.Iterator
       c.args.self.now c.new-items.result (in_call e) no_exprs ts (λ k. c.new-items.ensures);
 }
 
-pub call-returns-in_err-close : goal.call-returns-in_err-close
-call-returns-in_err-close g t c = let p = err_from_is_err_and c.from_residual.result c.from_residual.ensures.1 in
-    rw (p.1, p.2) (blame (λ o w. λ k p s kp. let v = c.loop-self.invariant.arguments p.tree (p.tokens ++ (k ∷ [])) in
-    v.leads s o (w (at (item_due (in_call p.tree) v.items ((p.tokens ++ (k ∷ [])) ++ v.more) s)) (λ _. refl)))
+pub arguments-returns-in_err-close : goal.arguments-returns-in_err-close
+arguments-returns-in_err-close g t c = let p = err_from_is_err_and c.from_residual.result c.from_residual.ensures.1 in
+    rw (p.1, p.2) (blame (λ o w. λ f ts s. let v = c.loop-self.invariant.arguments f ts in
+    v.leads s o (w (at (item_due (in_call f) v.items (ts ++ v.more) s)) (λ _. refl)))
     c.in_err-close.ensures)
 
-pub call-returns-then-sees : goal.call-returns-then-sees
-call-returns-then-sees g t c = let n = c.in_ok-close.ensures in on_result c.called.result _ _ _ (λ o j. record {
-  level_is = j.0;
-  ready = n.ready;
-  later = omega (arith, c.loop-self.invariant.later, n.later);
-  goes = λ k p kp. called_with g.X.AsStr g.I.Iterator k p
-      kp (items_end g.X.AsStr g.I.Iterator
-      (c.loop-self.invariant.arguments p.tree (p.tokens ++ (k ∷ []))) n
-      (kind_seen (kind.Operator sign.RightParenthesis) (sym c.sees.ensures ∙ c.if-sees.true) c.in_ok-close.ensures.here)
-      tt) (λ es ke. j.1 p es no_keywords kp ke c.new.ensures);
-}) c.called.ensures
+pub arguments-returns-then-sees : goal.arguments-returns-then-sees
+arguments-returns-then-sees g t c = let n = c.in_ok-close.ensures in record {
+  ready = n.takes.ready;
+  later = omega (arith, c.loop-self.invariant.later, n.takes.later);
+  passes = λ f ts. passes_items g.X.AsStr g.I.Iterator (items_end g.X.AsStr g.I.Iterator
+      (c.loop-self.invariant.arguments f ts) n.takes
+      (kind_seen (kind.Operator sign.RightParenthesis) (sym c.sees.ensures ∙ c.if-sees.true) n.takes.here) n.ends tt)
+      c.new.ensures;
+}
 
-pub call-returns-in_err-item : goal.call-returns-in_err-item
-call-returns-in_err-item g t c = let p = err_from_is_err_and c.from_residual-in_err-item.result
+pub arguments-returns-in_err-item : goal.arguments-returns-in_err-item
+arguments-returns-in_err-item g t c = let p = err_from_is_err_and c.from_residual-in_err-item.result
     c.from_residual-in_err-item.ensures.1 in
-    rw (p.1, p.2) (blame (λ o w. λ k p s kp. let v = c.loop-self.invariant.arguments p.tree (p.tokens ++ (k ∷ [])) in
-    v.leads s o (item_begins g.X.AsStr.text g.I.Iterator.next_gives c.loop-self.self (in_call p.tree) v.items
-    ((p.tokens ++ (k ∷ [])) ++ v.more) s (sym c.sees.ensures ∙ c.if-sees.false) o
-    (w (listing (in_call p.tree) v.items ((p.tokens ++ (k ∷ [])) ++ v.more) s) refl))) c.in_err-item.ensures.reads)
+    rw (p.1, p.2) (blame (λ o w. λ f ts s. let v = c.loop-self.invariant.arguments f ts in
+    v.leads s o (item_begins g.X.AsStr.text g.I.Iterator.next_gives c.loop-self.self (in_call f) v.items
+    (ts ++ v.more) s (sym c.sees.ensures ∙ c.if-sees.false) o
+    (w (listing (in_call f) v.items (ts ++ v.more) s) refl))) c.in_err-item.ensures.reads)
 
-pub call-returns-in_default : goal.call-returns-in_default
-call-returns-in_default g t c = blame (λ o w. λ k p s kp. let v = c.loop-self.invariant.arguments p.tree
-    (p.tokens ++ (k ∷ [])) in let q = c.in_ok-item.ensures.reads in item_read g.X.AsStr g.I.Iterator v s
+pub arguments-returns-in_default : goal.arguments-returns-in_default
+arguments-returns-in_default g t c = blame (λ o w. λ f ts s. let v = c.loop-self.invariant.arguments f
+    ts in let q = c.in_ok-item.ensures.reads in item_read g.X.AsStr g.I.Iterator v s
     (sym c.sees.ensures ∙ c.if-sees.false) q o
-    (w (have c.in_ok-item.item.level q.part (listing (in_call p.tree) v.items ((p.tokens ++ (k ∷ [])) ++ v.more) s))
+    (w (have c.in_ok-item.item.level q.part (listing (in_call f) v.items (ts ++ v.more) s))
     (record {
       unfinished = refl;
-      stuck_at = λ u e. keyword_stuck c.in_ok-item.item.level p.tree v.items
-          ((p.tokens ++ (k ∷ [])) ++ v.more) s q.part (lexeme g.X.AsStr.text u) u.kind
+      stuck_at = λ u e. keyword_stuck c.in_ok-item.item.level f v.items
+          (ts ++ v.more) s q.part (lexeme g.X.AsStr.text u) u.kind
           (named_alike q.keeps ∙ c.in_default.ensures)
           (kind_seen (kind.Operator sign.Equal) (sym c.sees-in-loop-self.ensures ∙ c.if-sees-2.true) e);
     }))) c.misfit.ensures
 
-pub call-returns-in_err-take : goal.call-returns-in_err-take
-call-returns-in_err-take g t c = let p = err_from_is_err_and c.from_residual-in_err-take.result
-    c.from_residual-in_err-take.ensures.1 in
-    rw (p.1, p.2) (blame (λ o w. λ k p s kp. let v = c.loop-self.invariant.arguments p.tree (p.tokens ++ (k ∷ [])) in
+pub arguments-returns-in_err-skip : goal.arguments-returns-in_err-skip
+arguments-returns-in_err-skip g t c = let p = err_from_is_err_and c.from_residual-in_err-skip.result
+    c.from_residual-in_err-skip.ensures.1 in
+    rw (p.1, p.2) (blame (λ o w. λ f ts s. let v = c.loop-self.invariant.arguments f ts in
     let q = c.in_ok-item.ensures.reads in item_read g.X.AsStr g.I.Iterator v s (sym c.sees.ensures ∙ c.if-sees.false) q
     o
-    (w (at (have c.in_ok-item.item.level q.part (listing (in_call p.tree) v.items ((p.tokens ++ (k ∷ [])) ++ v.more)
-    s))) (λ _. refl))) c.in_err-take.ensures)
+    (w (at (have c.in_ok-item.item.level q.part (listing (in_call f) v.items (ts ++ v.more)
+    s))) (λ _. refl))) c.in_err-skip.ensures)
 
-pub call-returns-in_err-keywords : goal.call-returns-in_err-keywords
-call-returns-in_err-keywords g t c = let p = err_from_is_err_and c.from_residual-in_err-keywords.result
+pub arguments-returns-in_err-keywords : goal.arguments-returns-in_err-keywords
+arguments-returns-in_err-keywords g t c = let p = err_from_is_err_and c.from_residual-in_err-keywords.result
     c.from_residual-in_err-keywords.ensures.1 in
-    rw (p.1, p.2) (blame (λ o w. λ k p s kp. let v = c.loop-self.invariant.arguments p.tree (p.tokens ++ (k ∷ [])) in
+    rw (p.1, p.2) (blame (λ o w. λ f ts s. let v = c.loop-self.invariant.arguments f ts in
     let q = c.in_ok-item.ensures.reads in item_read g.X.AsStr g.I.Iterator v s (sym c.sees.ensures ∙ c.if-sees.false) q
     o
-    (step_to (have c.in_ok-item.item.level q.part (listing (in_call p.tree) v.items
-    ((p.tokens ++ (k ∷ [])) ++ v.more) s)) (operand (naming p.tree v.items no_keywords (name_of c.in-Some.name)
-    (((p.tokens ++ (k ∷ [])) ++ v.more) ++ (q.part.tokens ++ ((lexeme g.X.AsStr.text c.in_ok-take.field-0) ∷ [])))
-    s)) c.in_ok-take.ensures
-    (keyword_begins c.in_ok-item.item.level p.tree v.items ((p.tokens ++ (k ∷ [])) ++ v.more) s q.part
-    (name_of c.in-Some.name) (lexeme g.X.AsStr.text c.in_ok-take.field-0) _
+    (step_to (have c.in_ok-item.item.level q.part (listing (in_call f) v.items
+    (ts ++ v.more) s)) (operand (naming f v.items no_keywords (name_of c.in-Some.name)
+    ((ts ++ v.more) ++ (q.part.tokens ++ ((lexeme g.X.AsStr.text c.in_ok-skip.ensures.token) ∷ [])))
+    s)) c.in_ok-skip.ensures.takes
+    (keyword_begins c.in_ok-item.item.level f v.items (ts ++ v.more) s q.part
+    (name_of c.in-Some.name) (lexeme g.X.AsStr.text c.in_ok-skip.ensures.token) _
     (named_alike q.keeps ∙ c.in-Some.ensures) (kind_seen (kind.Operator sign.Equal) (sym c.sees-in-loop-self.ensures
-    ∙ c.if-sees-2.true) c.in_ok-take.ensures.here)) o (w p.tree v.items
-    (((p.tokens ++ (k ∷ [])) ++ v.more) ++ (q.part.tokens ++ ((lexeme g.X.AsStr.text c.in_ok-take.field-0) ∷ [])))
+    ∙ c.if-sees-2.true) c.in_ok-skip.ensures.takes.here)) o (w f v.items
+    ((ts ++ v.more) ++ (q.part.tokens ++ ((lexeme g.X.AsStr.text c.in_ok-skip.ensures.token) ∷ [])))
     s))) c.in_err-keywords.ensures)
 
-pub call-returns-then-sees-2 : goal.call-returns-then-sees-2
-call-returns-then-sees-2 g t c = let m = c.in_ok-keywords.ensures in on_result c.called-then-sees-2.result _ _ _
-    (λ o j. record {
-      level_is = j.0;
+pub arguments-returns-then-sees-2 : goal.arguments-returns-then-sees-2
+arguments-returns-then-sees-2 g t c = let m = c.in_ok-keywords.ensures in let q = c.in_ok-item.ensures.reads in let k =
+    c.in_ok-skip.ensures.takes in record {
       ready = m.ready;
-      later = omega (
-        arith,
-        c.loop-self.invariant.later,
-        c.in_ok-item.ensures.reads.later,
-        c.in_ok-take.ensures.later,
-        m.later,
-      );
-      goes = λ k p kp. let v = c.loop-self.invariant.arguments p.tree (p.tokens ++ (k ∷ [])) in let q =
-          c.in_ok-item.ensures.reads in let n = m.names p.tree v.items
-          (((p.tokens ++ (k ∷ [])) ++ v.more)
-          ++ (q.part.tokens ++ ((lexeme g.X.AsStr.text c.in_ok-take.field-0) ∷ []))) in record {
-            part = call_part p.tree v.items n.arguments
-                ((((p.tokens ++ (k ∷ [])) ++ v.more)
-                ++ (q.part.tokens ++ ((lexeme g.X.AsStr.text c.in_ok-take.field-0) ∷ []))) ++ n.more);
-            keeps = j.1 p v.items n.arguments kp (v.keeps tt) n.keeps _
-                (starts_more _ (starts_more _ (starts_more _ (starts_more _ kp.starts))))
-                (ends_more (((p.tokens ++ (k ∷ [])) ++ v.more) ++ (q.part.tokens
-                ++ ((lexeme g.X.AsStr.text c.in_ok-take.field-0) ∷ []))) n.ends);
-            begins = first_more _ (starts_more _ (starts_more _ (starts_more (k ∷ []) kp.starts)))
-                ∙ first_more _ (starts_more _ (starts_more (k ∷ []) kp.starts))
-                ∙ first_more _ (starts_more (k ∷ []) kp.starts) ∙ first_more _ kp.starts;
-            leads = λ s o x. item_read g.X.AsStr g.I.Iterator v s (sym c.sees.ensures ∙ c.if-sees.false) q o
-                (step_to (have c.in_ok-item.item.level q.part (listing (in_call p.tree) v.items
-                ((p.tokens ++ (k ∷ [])) ++ v.more) s))
-                (operand (naming p.tree v.items no_keywords (name_of c.in-Some.name)
-                (((p.tokens ++ (k ∷ [])) ++ v.more)
-                ++ (q.part.tokens ++ ((lexeme g.X.AsStr.text c.in_ok-take.field-0) ∷ []))) s)) c.in_ok-take.ensures
-                (keyword_begins c.in_ok-item.item.level p.tree v.items ((p.tokens ++ (k ∷ [])) ++ v.more) s q.part
-                (name_of c.in-Some.name) (lexeme g.X.AsStr.text c.in_ok-take.field-0) _
-                (named_alike q.keeps ∙ c.in-Some.ensures) (kind_seen (kind.Operator sign.Equal)
-                (sym c.sees-in-loop-self.ensures ∙ c.if-sees-2.true) c.in_ok-take.ensures.here)) o (n.leads s o x));
-          };
-    }) c.called-then-sees-2.ensures
+      later = omega (arith, c.loop-self.invariant.later, q.later, k.later, m.later);
+      passes = λ f ts. let v = c.loop-self.invariant.arguments f ts in passes_names g.X.AsStr g.I.Iterator v
+          (sym c.sees.ensures ∙ c.if-sees.false) q k
+          (kind_seen (kind.Operator sign.Equal) (sym c.sees-in-loop-self.ensures ∙ c.if-sees-2.true) k.here)
+          (named_alike q.keeps ∙ c.in-Some.ensures) (λ us. m.names f v.items us);
+    }
 
-pub call-returns-in_err-close-2 : goal.call-returns-in_err-close-2
-call-returns-in_err-close-2 g t c = let p = err_from_is_err_and c.from_residual-in_err-close-2.result
+pub arguments-returns-in_err-close-2 : goal.arguments-returns-in_err-close-2
+arguments-returns-in_err-close-2 g t c = let p = err_from_is_err_and c.from_residual-in_err-close-2.result
     c.from_residual-in_err-close-2.ensures.1 in
-    rw (p.1, p.2) (blame (λ o w. λ k p s kp. let v = c.loop-self.invariant.arguments p.tree (p.tokens ++ (k ∷ [])) in
+    rw (p.1, p.2) (blame (λ o w. λ f ts s. let v = c.loop-self.invariant.arguments f ts in
     let q = c.in_ok-item.ensures.reads in item_read g.X.AsStr g.I.Iterator v s (sym c.sees.ensures ∙ c.if-sees.false) q
     o
-    (w (have c.in_ok-item.item.level q.part (listing (in_call p.tree) v.items ((p.tokens ++ (k ∷ [])) ++ v.more) s))
+    (w (have c.in_ok-item.item.level q.part (listing (in_call f) v.items (ts ++ v.more) s))
     (needs_end g.X.AsStr.text (kind.Operator sign.RightParenthesis) c.in_ok-item.item.level q.part
-    (listing (in_call p.tree) v.items ((p.tokens ++ (k ∷ [])) ++ v.more) s) c.operators.new.self refl
+    (listing (in_call f) v.items (ts ++ v.more) s) c.operators.new.self refl
     c.in_ok-item.ensures.over c.in_ok-item.ensures.undotted
-    (λ u e n. argument_unended p.tree v.items ((p.tokens ++ (k ∷ [])) ++ v.more) s q.part (lexeme g.X.AsStr.text u)
+    (λ u e n. argument_unended f v.items (ts ++ v.more) s q.part (lexeme g.X.AsStr.text u)
     u.kind (not_seen (kind.Operator sign.Comma) (sym c.sees-in-loop-self-2.ensures ∙ c.if-not-sees.true) e)
     (not_seen (kind.Operator sign.Equal) (sym c.sees-in-loop-self.ensures ∙ c.if-sees-2.false) e) n))))
-    c.in_err-close-2.ensures.taken)
+    c.in_err-close-2.ensures)
 
-pub call-returns-then-not-sees : goal.call-returns-then-not-sees
-call-returns-then-not-sees g t c = let n = c.in_ok-close-2.ensures in let q = c.in_ok-item.ensures.reads in
-    on_result c.called-then-not-sees.result _ _ _ (λ o j. record {
-      level_is = j.0;
-      ready = n.taken.ready;
-      later = omega (arith, c.loop-self.invariant.later, q.later, n.taken.later);
-      goes = λ k p kp. called_with g.X.AsStr g.I.Iterator
-          k p kp (item_last g.X.AsStr g.I.Iterator
-          (c.loop-self.invariant.arguments p.tree (p.tokens ++ (k ∷ []))) (sym c.sees.ensures ∙ c.if-sees.false) q
-          c.in_ok-push.ensures n.taken n.kind tt) (λ es ke. j.1 p es no_keywords kp ke c.new-then-not-sees.ensures);
-    }) c.called-then-not-sees.ensures
+pub arguments-returns-then-not-sees : goal.arguments-returns-then-not-sees
+arguments-returns-then-not-sees g t c = let n = c.in_ok-close-2.ensures in let q = c.in_ok-item.ensures.reads in
+    record {
+      ready = n.takes.ready;
+      later = omega (arith, c.loop-self.invariant.later, q.later, n.takes.later);
+      passes = λ f ts. passes_items g.X.AsStr g.I.Iterator (item_last g.X.AsStr g.I.Iterator
+          (c.loop-self.invariant.arguments f ts) (sym c.sees.ensures ∙ c.if-sees.false) q c.in_ok-push.ensures n.takes
+          n.is n.ends tt) c.new-then-not-sees.ensures;
+    }
 
-pub call-returns-in_err-take-2 : goal.call-returns-in_err-take-2
-call-returns-in_err-take-2 g t c = let p = err_from_is_err_and c.from_residual-in_err-take-2.result
-    c.from_residual-in_err-take-2.ensures.1 in
-    rw (p.1, p.2) (blame (λ o w. λ k p s kp. let v = c.loop-self.invariant.arguments p.tree (p.tokens ++ (k ∷ [])) in
+pub arguments-returns-in_err-skip-2 : goal.arguments-returns-in_err-skip-2
+arguments-returns-in_err-skip-2 g t c = let p = err_from_is_err_and c.from_residual-in_err-skip-2.result
+    c.from_residual-in_err-skip-2.ensures.1 in
+    rw (p.1, p.2) (blame (λ o w. λ f ts s. let v = c.loop-self.invariant.arguments f ts in
     let q = c.in_ok-item.ensures.reads in item_read g.X.AsStr g.I.Iterator v s (sym c.sees.ensures ∙ c.if-sees.false) q
     o
-    (w (at (have c.in_ok-item.item.level q.part (listing (in_call p.tree) v.items ((p.tokens ++ (k ∷ [])) ++ v.more)
-    s))) (λ _. refl))) c.in_err-take-2.ensures)
+    (w (at (have c.in_ok-item.item.level q.part (listing (in_call f) v.items (ts ++ v.more)
+    s))) (λ _. refl))) c.in_err-skip-2.ensures)
 
-pub call-loop-self-preserved-in_ok-take-2 : goal.call-loop-self-preserved-in_ok-take-2
-call-loop-self-preserved-in_ok-take-2 g t c = let k = c.in_ok-take-2.ensures in let q = c.in_ok-item.ensures.reads in
+pub arguments-loop-self-preserved : goal.arguments-loop-self-preserved
+arguments-loop-self-preserved g t c = let k = c.in_ok-skip-2.ensures.takes in let q = c.in_ok-item.ensures.reads in
     record {
       ready = k.ready;
       later = omega (arith, c.loop-self.invariant.later, q.later, k.later);
@@ -221,14 +191,18 @@ call-loop-self-preserved-in_ok-take-2 g t c = let k = c.in_ok-take-2.ensures in 
           (kind_seen (kind.Operator sign.Comma) (sym c.sees-in-loop-self-2.ensures ∙ c.if-not-sees.false) k.here);
     }
 
-pub call-loop-self-preserved : goal.call-loop-self-preserved
-call-loop-self-preserved g t c = let k = c.in_ok-take-2.ensures in let q = c.in_ok-item.ensures.reads in record {
-  ready = k.ready;
-  later = omega (arith, c.loop-self.invariant.later, q.later, k.later);
-  arguments = λ e ts. item_more g.X.AsStr g.I.Iterator
-      (c.loop-self.invariant.arguments e ts) (sym c.sees.ensures ∙ c.if-sees.false) q c.in_ok-push.ensures k
-      (kind_seen (kind.Operator sign.Comma) (sym c.sees-in-loop-self-2.ensures ∙ c.if-not-sees.false) k.here);
-}
+pub call-returns-in_err-items : goal.call-returns-in_err-items
+call-returns-in_err-items g t c = let p = err_from_is_err_and c.from_residual.result c.from_residual.ensures.1 in
+    rw (p.1, p.2) (blame (λ o w. λ k q s kq. w q.tree (q.tokens ++ (k ∷ [])) s) c.in_err-items.ensures)
+
+pub call-returns : goal.call-returns
+call-returns g t c = let n = c.in_ok-items.ensures in on_result c.called.result _ _ _ (λ o j. record {
+  level_is = j.0;
+  ready = n.ready;
+  later = n.later;
+  goes = λ k p kp. called_with g.X.AsStr g.I.Iterator k p kp (n.passes p.tree (p.tokens ++ (k ∷ [])))
+      (λ es ks ke kk. j.1 p es ks kp ke kk);
+}) c.called.ensures
 
 pub dict-returns-in_err-open-clause-reads : goal.dict-returns-in_err-open-clause-reads
 dict-returns-in_err-open-clause-reads g t c = let p = err_from_is_err_and c.from_residual.result
@@ -236,17 +210,18 @@ dict-returns-in_err-open-clause-reads g t c = let p = err_from_is_err_and c.from
     rw (p.1, p.2) (blame (λ o w. λ s r. w (at (operand s)) (λ _. refl)) c.in_err-open.ensures)
 
 pub dict-loop-self-init : goal.dict-loop-self-init
-dict-loop-self-init g t c = let k = c.in_ok-open.ensures in record {
+dict-loop-self-init g t c = let k = c.in_ok-open.ensures.takes in record {
   ready = k.ready;
   later = k.later;
   entries = record {
     entries = no_entries;
-    tokens = (lexeme g.X.AsStr.text c.in_ok-open.open) ∷ [];
-    starts = starts_one (lexeme g.X.AsStr.text c.in_ok-open.open) [];
+    tokens = (lexeme g.X.AsStr.text c.in_ok-open.ensures.token) ∷ [];
+    starts = starts_at (lexeme g.X.AsStr.text c.in_ok-open.ensures.token) [] c.in_ok-open.ensures.starts;
     begins = λ u e. same_place k.here e;
     keeps = c.new-entries.ensures;
-    leads = λ s r. step_to (operand s) (key_due no_entries ((lexeme g.X.AsStr.text c.in_ok-open.open) ∷ []) s) k
-        (ap (transition (operand s) (lexeme g.X.AsStr.text c.in_ok-open.open))
+    leads = λ s r. step_to (operand s) (key_due no_entries ((lexeme g.X.AsStr.text c.in_ok-open.ensures.token) ∷ []) s)
+        k
+        (ap (transition (operand s) (lexeme g.X.AsStr.text c.in_ok-open.ensures.token))
         (kind_seen (kind.Operator sign.LeftBrace) r k.here));
   };
 }
@@ -259,8 +234,9 @@ dict-returns-in_err-close-clause-reads g t c = let p = err_from_is_err_and c.fro
 
 pub dict-returns-then-sees-clause-reads : goal.dict-returns-then-sees-clause-reads
 dict-returns-then-sees-clause-reads g t c = entries_end g.X.AsStr g.I.Iterator c.loop-self.invariant.entries
-    c.in_ok-close.ensures
-    (kind_seen (kind.Operator sign.RightBrace) (sym c.sees.ensures ∙ c.if-sees.true) c.in_ok-close.ensures.here)
+    c.in_ok-close.ensures.takes
+    (kind_seen (kind.Operator sign.RightBrace) (sym c.sees.ensures ∙ c.if-sees.true) c.in_ok-close.ensures.takes.here)
+    c.in_ok-close.ensures.ends
     c.dict.ensures.0 c.dict.ensures.1 c.loop-self.invariant.later
 
 pub dict-returns-in_err-key-clause-reads : goal.dict-returns-in_err-key-clause-reads
@@ -270,26 +246,27 @@ dict-returns-in_err-key-clause-reads g t c = let p = err_from_is_err_and c.from_
     v.leads s r o (key_begins g.X.AsStr.text g.I.Iterator.next_gives c.loop-self.self v.entries v.tokens s
     (sym c.sees.ensures ∙ c.if-sees.false) o (w (keying v.entries v.tokens s) refl))) c.in_err-key.ensures.reads)
 
-pub dict-returns-in_err-expect-clause-reads : goal.dict-returns-in_err-expect-clause-reads
-dict-returns-in_err-expect-clause-reads g t c = let p = err_from_is_err_and c.from_residual-in_err-expect.result
-    c.from_residual-in_err-expect.ensures.1 in
+pub dict-returns-in_err-expect_place-clause-reads : goal.dict-returns-in_err-expect_place-clause-reads
+dict-returns-in_err-expect_place-clause-reads g t c = let p = err_from_is_err_and
+    c.from_residual-in_err-expect_place.result
+    c.from_residual-in_err-expect_place.ensures.1 in
     rw (p.1, p.2) (blame (λ o w. λ s r. let v = c.loop-self.invariant.entries in let q = c.in_ok-key.ensures.reads in
     key_read g.X.AsStr g.I.Iterator v s r
     (sym c.sees.ensures ∙ c.if-sees.false) q o (w (have c.in_ok-key.key.level q.part (keying v.entries v.tokens s))
     (needs_end g.X.AsStr.text (kind.Operator sign.Colon) c.in_ok-key.key.level q.part (keying v.entries v.tokens s)
     c.operators.new.self refl c.in_ok-key.ensures.over c.in_ok-key.ensures.undotted
     (λ u e n. key_unended v.entries v.tokens s q.part (lexeme g.X.AsStr.text u) u.kind n))))
-    c.in_err-expect.ensures.taken)
+    c.in_err-expect_place.ensures)
 
 pub dict-returns-in_err-value-clause-reads : goal.dict-returns-in_err-value-clause-reads
 dict-returns-in_err-value-clause-reads g t c = let p = err_from_is_err_and c.from_residual-in_err-value.result
     c.from_residual-in_err-value.ensures.1 in
     rw (p.1, p.2) (blame (λ o w. λ s r. let v = c.loop-self.invariant.entries in let q = c.in_ok-key.ensures.reads in
     value_due g.X.AsStr g.I.Iterator v s r
-    (sym c.sees.ensures ∙ c.if-sees.false) q c.in_ok-expect.ensures.taken c.in_ok-expect.ensures.kind o
+    (sym c.sees.ensures ∙ c.if-sees.false) q c.in_ok-expect_place.ensures.takes c.in_ok-expect_place.ensures.is o
     (w
     (valuing v.entries q.part.tree
-    (v.tokens ++ (q.part.tokens ++ ((lexeme g.X.AsStr.text c.in_ok-expect.field-0) ∷ []))) s) refl))
+    (v.tokens ++ (q.part.tokens ++ ((lexeme g.X.AsStr.text c.in_ok-expect_place.ensures.token) ∷ []))) s) refl))
     c.in_err-value.ensures.reads)
 
 pub dict-returns-in_err-close-2-clause-reads : goal.dict-returns-in_err-close-2-clause-reads
@@ -297,72 +274,58 @@ dict-returns-in_err-close-2-clause-reads g t c = let p = err_from_is_err_and c.f
     c.from_residual-in_err-close-2.ensures.1 in
     rw (p.1, p.2) (blame (λ o w. λ s r. let v = c.loop-self.invariant.entries in let q = c.in_ok-key.ensures.reads in
     let y = c.in_ok-value.ensures.reads in value_read g.X.AsStr g.I.Iterator v s r
-    (sym c.sees.ensures ∙ c.if-sees.false) q c.in_ok-expect.ensures.taken
-    c.in_ok-expect.ensures.kind y o
+    (sym c.sees.ensures ∙ c.if-sees.false) q c.in_ok-expect_place.ensures.takes
+    c.in_ok-expect_place.ensures.is y o
     (w (have c.in_ok-value.value.level y.part (valuing v.entries q.part.tree
-    (v.tokens ++ (q.part.tokens ++ ((lexeme g.X.AsStr.text c.in_ok-expect.field-0) ∷ []))) s))
+    (v.tokens ++ (q.part.tokens ++ ((lexeme g.X.AsStr.text c.in_ok-expect_place.ensures.token) ∷ []))) s))
     (needs_end g.X.AsStr.text (kind.Operator sign.RightBrace) c.in_ok-value.value.level y.part
     (valuing v.entries q.part.tree
-    (v.tokens ++ (q.part.tokens ++ ((lexeme g.X.AsStr.text c.in_ok-expect.field-0) ∷ []))) s)
+    (v.tokens ++ (q.part.tokens ++ ((lexeme g.X.AsStr.text c.in_ok-expect_place.ensures.token) ∷ []))) s)
     c.operators-in-loop-self.new.self refl c.in_ok-value.ensures.over c.in_ok-value.ensures.undotted
     (λ u e n. value_unended v.entries q.part.tree
-    (v.tokens ++ (q.part.tokens ++ ((lexeme g.X.AsStr.text c.in_ok-expect.field-0) ∷ []))) s y.part
+    (v.tokens ++ (q.part.tokens ++ ((lexeme g.X.AsStr.text c.in_ok-expect_place.ensures.token) ∷ []))) s y.part
     (lexeme g.X.AsStr.text u) u.kind (not_seen (kind.Operator sign.Comma) (sym c.sees-in-loop-self.ensures
-    ∙ c.if-not-sees.true) e) n)))) c.in_err-close-2.ensures.taken)
+    ∙ c.if-not-sees.true) e) n)))) c.in_err-close-2.ensures)
 
 pub dict-returns-then-not-sees-clause-reads : goal.dict-returns-then-not-sees-clause-reads
 dict-returns-then-not-sees-clause-reads g t c = entry_last g.X.AsStr g.I.Iterator c.loop-self.invariant.entries
     (sym c.sees.ensures ∙ c.if-sees.false)
-    c.in_ok-key.ensures.reads c.in_ok-expect.ensures.taken c.in_ok-expect.ensures.kind c.in_ok-value.ensures.reads
-    c.in_ok-push.ensures c.in_ok-close-2.ensures.taken c.in_ok-close-2.ensures.kind c.dict-then-not-sees.ensures.0
+    c.in_ok-key.ensures.reads c.in_ok-expect_place.ensures.takes c.in_ok-expect_place.ensures.is
+    c.in_ok-value.ensures.reads
+    c.in_ok-push.ensures c.in_ok-close-2.ensures.takes c.in_ok-close-2.ensures.is c.in_ok-close-2.ensures.ends
+    c.dict-then-not-sees.ensures.0
     c.dict-then-not-sees.ensures.1 c.loop-self.invariant.later
 
-pub dict-returns-in_err-take-clause-reads : goal.dict-returns-in_err-take-clause-reads
-dict-returns-in_err-take-clause-reads g t c = let p = err_from_is_err_and c.from_residual-in_err-take.result
-    c.from_residual-in_err-take.ensures.1 in
+pub dict-returns-in_err-skip-clause-reads : goal.dict-returns-in_err-skip-clause-reads
+dict-returns-in_err-skip-clause-reads g t c = let p = err_from_is_err_and c.from_residual-in_err-skip.result
+    c.from_residual-in_err-skip.ensures.1 in
     rw (p.1, p.2) (blame (λ o w. λ s r. let v = c.loop-self.invariant.entries in let q = c.in_ok-key.ensures.reads in
     let y = c.in_ok-value.ensures.reads in value_read g.X.AsStr g.I.Iterator v s r
-    (sym c.sees.ensures ∙ c.if-sees.false) q c.in_ok-expect.ensures.taken
-    c.in_ok-expect.ensures.kind y o
+    (sym c.sees.ensures ∙ c.if-sees.false) q c.in_ok-expect_place.ensures.takes
+    c.in_ok-expect_place.ensures.is y o
     (w
     (at (have c.in_ok-value.value.level y.part (valuing v.entries q.part.tree
-    (v.tokens ++ (q.part.tokens ++ ((lexeme g.X.AsStr.text c.in_ok-expect.field-0) ∷ []))) s))) (λ _. refl)))
-    c.in_err-take.ensures)
-
-pub dict-loop-self-preserved-in_ok-take : goal.dict-loop-self-preserved-in_ok-take
-dict-loop-self-preserved-in_ok-take g t c = let k = c.in_ok-take.ensures in record {
-  ready = k.ready;
-  later = omega (
-    arith,
-    c.loop-self.invariant.later,
-    c.in_ok-key.ensures.reads.later,
-    c.in_ok-expect.ensures.taken.later,
-    c.in_ok-value.ensures.reads.later,
-    k.later,
-  );
-  entries = entry_more g.X.AsStr g.I.Iterator
-      c.loop-self.invariant.entries (sym c.sees.ensures ∙ c.if-sees.false) c.in_ok-key.ensures.reads
-      c.in_ok-expect.ensures.taken c.in_ok-expect.ensures.kind c.in_ok-value.ensures.reads c.in_ok-push.ensures k
-      (kind_seen (kind.Operator sign.Comma) (sym c.sees-in-loop-self.ensures ∙ c.if-not-sees.false)
-      c.in_ok-take.ensures.here);
-}
+    (v.tokens ++ (q.part.tokens ++ ((lexeme g.X.AsStr.text c.in_ok-expect_place.ensures.token) ∷ []))) s))) (λ _.
+    refl)))
+    c.in_err-skip.ensures)
 
 pub dict-loop-self-preserved : goal.dict-loop-self-preserved
-dict-loop-self-preserved g t c = let k = c.in_ok-take.ensures in record {
+dict-loop-self-preserved g t c = let k = c.in_ok-skip.ensures.takes in record {
   ready = k.ready;
   later = omega (
     arith,
     c.loop-self.invariant.later,
     c.in_ok-key.ensures.reads.later,
-    c.in_ok-expect.ensures.taken.later,
+    c.in_ok-expect_place.ensures.takes.later,
     c.in_ok-value.ensures.reads.later,
     k.later,
   );
   entries = entry_more g.X.AsStr g.I.Iterator
       c.loop-self.invariant.entries (sym c.sees.ensures ∙ c.if-sees.false) c.in_ok-key.ensures.reads
-      c.in_ok-expect.ensures.taken c.in_ok-expect.ensures.kind c.in_ok-value.ensures.reads c.in_ok-push.ensures k
+      c.in_ok-expect_place.ensures.takes c.in_ok-expect_place.ensures.is c.in_ok-value.ensures.reads
+      c.in_ok-push.ensures k
       (kind_seen (kind.Operator sign.Comma) (sym c.sees-in-loop-self.ensures ∙ c.if-not-sees.false)
-      c.in_ok-take.ensures.here);
+      c.in_ok-skip.ensures.takes.here);
 }
 
 pub group-returns-in_err-open-clause-reads : goal.group-returns-in_err-open-clause-reads
@@ -374,153 +337,192 @@ pub group-returns-in_err-close-clause-reads : goal.group-returns-in_err-close-cl
 group-returns-in_err-close-clause-reads g t c = let p = err_from_is_err_and c.from_residual-in_err-close.result
     c.from_residual-in_err-close.ensures.1 in
     rw (p.1, p.2)
-    (blame (λ o w. λ s r. step_to (operand s) (group_due ((lexeme g.X.AsStr.text c.in_ok-open.open) ∷ []) s)
-    c.in_ok-open.ensures (ap (transition (operand s) (lexeme g.X.AsStr.text c.in_ok-open.open))
-    (kind_seen (kind.Operator sign.LeftParenthesis) r c.in_ok-open.ensures.here)) o
-    (w (at (group_due ((lexeme g.X.AsStr.text c.in_ok-open.open) ∷ []) s)) (λ _. refl))) c.in_err-close.ensures)
+    (blame (λ o w. λ s r. step_to (operand s) (group_due ((lexeme g.X.AsStr.text c.in_ok-open.ensures.token) ∷ []) s)
+    c.in_ok-open.ensures.takes (ap (transition (operand s) (lexeme g.X.AsStr.text c.in_ok-open.ensures.token))
+    (kind_seen (kind.Operator sign.LeftParenthesis) r c.in_ok-open.ensures.takes.here)) o
+    (w (at (group_due ((lexeme g.X.AsStr.text c.in_ok-open.ensures.token) ∷ []) s)) (λ _. refl)))
+    c.in_err-close.ensures)
 
 pub group-returns-then-sees-clause-reads : goal.group-returns-then-sees-clause-reads
-group-returns-then-sees-clause-reads g t c = let k = c.in_ok-close.ensures in record {
-  part = (bare_part (λ p. tuple p no_exprs) ((lexeme g.X.AsStr.text c.in_ok-open.open)
-      ∷ (lexeme g.X.AsStr.text c.in_ok-close.close) ∷ []));
-  keeps = c.tuple.ensures.1 no_exprs c.new.ensures _ (starts_one (lexeme g.X.AsStr.text c.in_ok-open.open) _)
-      (ends_more ((lexeme g.X.AsStr.text c.in_ok-open.open) ∷ [])
-      (ends_one (lexeme g.X.AsStr.text c.in_ok-close.close)));
+group-returns-then-sees-clause-reads g t c = let k = c.in_ok-close.ensures.takes in record {
+  part = (bare_part (λ p. tuple p no_exprs) ((lexeme g.X.AsStr.text c.in_ok-open.ensures.token)
+      ∷ (lexeme g.X.AsStr.text c.in_ok-close.ensures.token) ∷ []));
+  keeps = c.tuple.ensures.1 no_exprs c.new.ensures _ (starts_at (lexeme g.X.AsStr.text c.in_ok-open.ensures.token) _
+      c.in_ok-open.ensures.starts)
+      (ends_more ((lexeme g.X.AsStr.text c.in_ok-open.ensures.token) ∷ [])
+      (ends_at (lexeme g.X.AsStr.text c.in_ok-close.ensures.token) c.in_ok-close.ensures.ends));
   low = omega (arith, c.tuple.ensures.0);
   ready = k.ready;
-  later = omega (arith, c.in_ok-open.ensures.later, k.later);
-  begins = λ u e. same_place c.in_ok-open.ensures.here e;
-  leads = λ s r o x. step_to (operand s) (group_due ((lexeme g.X.AsStr.text c.in_ok-open.open) ∷ []) s)
-      c.in_ok-open.ensures (ap (transition (operand s) (lexeme g.X.AsStr.text c.in_ok-open.open))
-      (kind_seen (kind.Operator sign.LeftParenthesis) r c.in_ok-open.ensures.here)) o
-      (step_to (group_due ((lexeme g.X.AsStr.text c.in_ok-open.open) ∷ []) s)
-      (have 7 (bare_part (λ p. tuple p no_exprs) ((lexeme g.X.AsStr.text c.in_ok-open.open)
-      ∷ (lexeme g.X.AsStr.text c.in_ok-close.close) ∷ [])) s) k
-      (ap (transition (group_due ((lexeme g.X.AsStr.text c.in_ok-open.open) ∷ []) s)
-      (lexeme g.X.AsStr.text c.in_ok-close.close)) (kind_seen (kind.Operator sign.RightParenthesis)
-      (sym c.sees.ensures ∙ c.if-sees.true) c.in_ok-close.ensures.here)) o
-      (subst (λ z. Came g.X.AsStr.text g.I.Iterator.next_gives c.take-then-sees.new.self
+  later = omega (arith, c.in_ok-open.ensures.takes.later, k.later);
+  begins = λ u e. same_place c.in_ok-open.ensures.takes.here e;
+  leads = λ s r o x. step_to (operand s) (group_due ((lexeme g.X.AsStr.text c.in_ok-open.ensures.token) ∷ []) s)
+      c.in_ok-open.ensures.takes (ap (transition (operand s) (lexeme g.X.AsStr.text c.in_ok-open.ensures.token))
+      (kind_seen (kind.Operator sign.LeftParenthesis) r c.in_ok-open.ensures.takes.here)) o
+      (step_to (group_due ((lexeme g.X.AsStr.text c.in_ok-open.ensures.token) ∷ []) s)
+      (have 7 (bare_part (λ p. tuple p no_exprs) ((lexeme g.X.AsStr.text c.in_ok-open.ensures.token)
+      ∷ (lexeme g.X.AsStr.text c.in_ok-close.ensures.token) ∷ [])) s) k
+      (ap (transition (group_due ((lexeme g.X.AsStr.text c.in_ok-open.ensures.token) ∷ []) s)
+      (lexeme g.X.AsStr.text c.in_ok-close.ensures.token)) (kind_seen (kind.Operator sign.RightParenthesis)
+      (sym c.sees.ensures ∙ c.if-sees.true) c.in_ok-close.ensures.takes.here)) o
+      (subst (λ z. Came g.X.AsStr.text g.I.Iterator.next_gives c.take_place-then-sees.new.self
       (at
-      (have z (bare_part (λ p. tuple p no_exprs) ((lexeme g.X.AsStr.text c.in_ok-open.open)
-      ∷ (lexeme g.X.AsStr.text c.in_ok-close.close) ∷ [])) s)) o) c.tuple.ensures.0 x));
+      (have z (bare_part (λ p. tuple p no_exprs) ((lexeme g.X.AsStr.text c.in_ok-open.ensures.token)
+      ∷ (lexeme g.X.AsStr.text c.in_ok-close.ensures.token) ∷ [])) s)) o) c.tuple.ensures.0 x));
 }
 
 pub group-returns-in_err-first-clause-reads : goal.group-returns-in_err-first-clause-reads
 group-returns-in_err-first-clause-reads g t c = let p = err_from_is_err_and c.from_residual-in_err-first.result
     c.from_residual-in_err-first.ensures.1 in
     rw (p.1, p.2)
-    (blame (λ o w. λ s r. step_to (operand s) (group_due ((lexeme g.X.AsStr.text c.in_ok-open.open) ∷ []) s)
-    c.in_ok-open.ensures (ap (transition (operand s) (lexeme g.X.AsStr.text c.in_ok-open.open))
-    (kind_seen (kind.Operator sign.LeftParenthesis) r c.in_ok-open.ensures.here)) o
-    (group_begins g.X.AsStr.text g.I.Iterator.next_gives c.take.new.self
-    ((lexeme g.X.AsStr.text c.in_ok-open.open) ∷ []) s (sym c.sees.ensures ∙ c.if-sees.false) o
-    (w (grouping ((lexeme g.X.AsStr.text c.in_ok-open.open) ∷ []) s) refl))) c.in_err-first.ensures.reads)
+    (blame (λ o w. λ s r. step_to (operand s) (group_due ((lexeme g.X.AsStr.text c.in_ok-open.ensures.token) ∷ []) s)
+    c.in_ok-open.ensures.takes (ap (transition (operand s) (lexeme g.X.AsStr.text c.in_ok-open.ensures.token))
+    (kind_seen (kind.Operator sign.LeftParenthesis) r c.in_ok-open.ensures.takes.here)) o
+    (group_begins g.X.AsStr.text g.I.Iterator.next_gives c.take_place.new.self
+    ((lexeme g.X.AsStr.text c.in_ok-open.ensures.token) ∷ []) s (sym c.sees.ensures ∙ c.if-sees.false) o
+    (w (grouping ((lexeme g.X.AsStr.text c.in_ok-open.ensures.token) ∷ []) s) refl))) c.in_err-first.ensures.reads)
 
 pub group-returns-in_err-close-2-clause-reads : goal.group-returns-in_err-close-2-clause-reads
 group-returns-in_err-close-2-clause-reads g t c = let p = err_from_is_err_and c.from_residual-in_err-close-2.result
     c.from_residual-in_err-close-2.ensures.1 in
     rw (p.1, p.2) (blame (λ o w. λ s r. let q = c.in_ok-first.ensures.reads in
-    step_to (operand s) (group_due ((lexeme g.X.AsStr.text c.in_ok-open.open) ∷ []) s) c.in_ok-open.ensures
-    (ap (transition (operand s) (lexeme g.X.AsStr.text c.in_ok-open.open))
-    (kind_seen (kind.Operator sign.LeftParenthesis) r c.in_ok-open.ensures.here)) o
-    (group_begins g.X.AsStr.text g.I.Iterator.next_gives c.take.new.self
-    ((lexeme g.X.AsStr.text c.in_ok-open.open) ∷ []) s (sym c.sees.ensures ∙ c.if-sees.false) o
-    (q.leads (grouping ((lexeme g.X.AsStr.text c.in_ok-open.open) ∷ []) s) refl o
-    (w (at (have c.in_ok-first.first.level q.part (grouping ((lexeme g.X.AsStr.text c.in_ok-open.open) ∷ []) s)))
+    step_to (operand s) (group_due ((lexeme g.X.AsStr.text c.in_ok-open.ensures.token) ∷ []) s)
+    c.in_ok-open.ensures.takes
+    (ap (transition (operand s) (lexeme g.X.AsStr.text c.in_ok-open.ensures.token))
+    (kind_seen (kind.Operator sign.LeftParenthesis) r c.in_ok-open.ensures.takes.here)) o
+    (group_begins g.X.AsStr.text g.I.Iterator.next_gives c.take_place.new.self
+    ((lexeme g.X.AsStr.text c.in_ok-open.ensures.token) ∷ []) s (sym c.sees.ensures ∙ c.if-sees.false) o
+    (q.leads (grouping ((lexeme g.X.AsStr.text c.in_ok-open.ensures.token) ∷ []) s) refl o
+    (w (at (have c.in_ok-first.first.level q.part (grouping ((lexeme g.X.AsStr.text c.in_ok-open.ensures.token) ∷ [])
+    s)))
     (λ _. refl))))) c.in_err-close-2.ensures)
 
 pub group-returns-then-sees-2-clause-reads : goal.group-returns-then-sees-2-clause-reads
-group-returns-then-sees-2-clause-reads g t c = let q = c.in_ok-first.ensures.reads in let k = c.in_ok-close-2.ensures in
+group-returns-then-sees-2-clause-reads g t c = let q = c.in_ok-first.ensures.reads in let k =
+    c.in_ok-close-2.ensures.takes in
     rw c.grouped.ensures (record {
-      part = grouped ((lexeme g.X.AsStr.text c.in_ok-open.open) ∷ []) q.part
-          (lexeme g.X.AsStr.text c.in_ok-close-2.close);
-      keeps = keeps_grouped c.in_ok-first.first q.part (lexeme g.X.AsStr.text c.in_ok-open.open)
-          (lexeme g.X.AsStr.text c.in_ok-close-2.close) q.keeps;
+      part = grouped ((lexeme g.X.AsStr.text c.in_ok-open.ensures.token) ∷ []) q.part
+          (lexeme g.X.AsStr.text c.in_ok-close-2.ensures.token);
+      keeps = keeps_grouped c.in_ok-first.first q.part (lexeme g.X.AsStr.text c.in_ok-open.ensures.token)
+          (lexeme g.X.AsStr.text c.in_ok-close-2.ensures.token) c.in_ok-open.ensures.starts c.in_ok-close-2.ensures.ends
+          q.keeps;
       low = omega arith;
       ready = k.ready;
-      later = omega (arith, c.in_ok-open.ensures.later, q.later, k.later);
-      begins = λ u e. same_place c.in_ok-open.ensures.here e;
-      leads = λ s r o x. step_to (operand s) (group_due ((lexeme g.X.AsStr.text c.in_ok-open.open) ∷ []) s)
-          c.in_ok-open.ensures (ap (transition (operand s) (lexeme g.X.AsStr.text c.in_ok-open.open))
-          (kind_seen (kind.Operator sign.LeftParenthesis) r c.in_ok-open.ensures.here)) o
-          (group_begins g.X.AsStr.text g.I.Iterator.next_gives c.take.new.self
-          ((lexeme g.X.AsStr.text c.in_ok-open.open) ∷ []) s (sym c.sees.ensures ∙ c.if-sees.false) o
-          (q.leads (grouping ((lexeme g.X.AsStr.text c.in_ok-open.open) ∷ []) s) refl o
-          (step_to (have c.in_ok-first.first.level q.part (grouping ((lexeme g.X.AsStr.text c.in_ok-open.open) ∷ []) s))
-          (have 7 (grouped ((lexeme g.X.AsStr.text c.in_ok-open.open) ∷ []) q.part
-          (lexeme g.X.AsStr.text c.in_ok-close-2.close)) s) k
+      later = omega (arith, c.in_ok-open.ensures.takes.later, q.later, k.later);
+      begins = λ u e. same_place c.in_ok-open.ensures.takes.here e;
+      leads = λ s r o x. step_to (operand s) (group_due ((lexeme g.X.AsStr.text c.in_ok-open.ensures.token) ∷ []) s)
+          c.in_ok-open.ensures.takes (ap (transition (operand s) (lexeme g.X.AsStr.text c.in_ok-open.ensures.token))
+          (kind_seen (kind.Operator sign.LeftParenthesis) r c.in_ok-open.ensures.takes.here)) o
+          (group_begins g.X.AsStr.text g.I.Iterator.next_gives c.take_place.new.self
+          ((lexeme g.X.AsStr.text c.in_ok-open.ensures.token) ∷ []) s (sym c.sees.ensures ∙ c.if-sees.false) o
+          (q.leads (grouping ((lexeme g.X.AsStr.text c.in_ok-open.ensures.token) ∷ []) s) refl o
+          (step_to (have c.in_ok-first.first.level q.part (grouping ((lexeme g.X.AsStr.text c.in_ok-open.ensures.token)
+          ∷ []) s))
+          (have 7 (grouped ((lexeme g.X.AsStr.text c.in_ok-open.ensures.token) ∷ []) q.part
+          (lexeme g.X.AsStr.text c.in_ok-close-2.ensures.token)) s) k
           (ap (transition (have c.in_ok-first.first.level q.part
-          (grouping ((lexeme g.X.AsStr.text c.in_ok-open.open) ∷ []) s))
-          (lexeme g.X.AsStr.text c.in_ok-close-2.close)) (kind_seen (kind.Operator sign.RightParenthesis)
-          (sym c.sees-2.ensures ∙ c.if-sees-2.true) c.in_ok-close-2.ensures.here)) o x)));
+          (grouping ((lexeme g.X.AsStr.text c.in_ok-open.ensures.token) ∷ []) s))
+          (lexeme g.X.AsStr.text c.in_ok-close-2.ensures.token)) (kind_seen (kind.Operator sign.RightParenthesis)
+          (sym c.sees-2.ensures ∙ c.if-sees-2.true) c.in_ok-close-2.ensures.takes.here)) o x)));
     })
 
-pub group-returns-in_err-expect-clause-reads : goal.group-returns-in_err-expect-clause-reads
-group-returns-in_err-expect-clause-reads g t c = let p = err_from_is_err_and c.from_residual-in_err-expect.result
-    c.from_residual-in_err-expect.ensures.1 in
+pub group-returns-in_err-expect_place-clause-reads : goal.group-returns-in_err-expect_place-clause-reads
+group-returns-in_err-expect_place-clause-reads g t c = let p = err_from_is_err_and
+    c.from_residual-in_err-expect_place.result
+    c.from_residual-in_err-expect_place.ensures.1 in
     rw (p.1, p.2) (blame (λ o w. λ s r. let q = c.in_ok-first.ensures.reads in
-    step_to (operand s) (group_due ((lexeme g.X.AsStr.text c.in_ok-open.open) ∷ []) s) c.in_ok-open.ensures
-    (ap (transition (operand s) (lexeme g.X.AsStr.text c.in_ok-open.open))
-    (kind_seen (kind.Operator sign.LeftParenthesis) r c.in_ok-open.ensures.here)) o
-    (group_begins g.X.AsStr.text g.I.Iterator.next_gives c.take.new.self
-    ((lexeme g.X.AsStr.text c.in_ok-open.open) ∷ []) s (sym c.sees.ensures ∙ c.if-sees.false) o
-    (q.leads (grouping ((lexeme g.X.AsStr.text c.in_ok-open.open) ∷ []) s) refl o
-    (w (have c.in_ok-first.first.level q.part (grouping ((lexeme g.X.AsStr.text c.in_ok-open.open) ∷ []) s))
+    step_to (operand s) (group_due ((lexeme g.X.AsStr.text c.in_ok-open.ensures.token) ∷ []) s)
+    c.in_ok-open.ensures.takes
+    (ap (transition (operand s) (lexeme g.X.AsStr.text c.in_ok-open.ensures.token))
+    (kind_seen (kind.Operator sign.LeftParenthesis) r c.in_ok-open.ensures.takes.here)) o
+    (group_begins g.X.AsStr.text g.I.Iterator.next_gives c.take_place.new.self
+    ((lexeme g.X.AsStr.text c.in_ok-open.ensures.token) ∷ []) s (sym c.sees.ensures ∙ c.if-sees.false) o
+    (q.leads (grouping ((lexeme g.X.AsStr.text c.in_ok-open.ensures.token) ∷ []) s) refl o
+    (w (have c.in_ok-first.first.level q.part (grouping ((lexeme g.X.AsStr.text c.in_ok-open.ensures.token) ∷ []) s))
     (needs_end g.X.AsStr.text (kind.Operator sign.Comma) c.in_ok-first.first.level q.part
-    (grouping ((lexeme g.X.AsStr.text c.in_ok-open.open) ∷ []) s) c.operators.new.self refl
+    (grouping ((lexeme g.X.AsStr.text c.in_ok-open.ensures.token) ∷ []) s) c.operators.new.self refl
     c.in_ok-first.ensures.over c.in_ok-first.ensures.undotted
-    (λ u e n. group_unended ((lexeme g.X.AsStr.text c.in_ok-open.open) ∷ []) s q.part (lexeme g.X.AsStr.text u)
+    (λ u e n. group_unended ((lexeme g.X.AsStr.text c.in_ok-open.ensures.token) ∷ []) s q.part (lexeme g.X.AsStr.text u)
     u.kind (not_seen (kind.Operator sign.RightParenthesis) (sym c.sees-2.ensures ∙ c.if-sees-2.false) e) n))))))
-    c.in_err-expect.ensures.taken)
+    c.in_err-expect_place.ensures)
 
 pub group-returns-in_err-items-clause-reads : goal.group-returns-in_err-items-clause-reads
 group-returns-in_err-items-clause-reads g t c = let p = err_from_is_err_and c.from_residual-in_err-items.result
     c.from_residual-in_err-items.ensures.1 in
     rw (p.1, p.2) (blame (λ o w. λ s r. let q = c.in_ok-first.ensures.reads in
-    step_to (operand s) (group_due ((lexeme g.X.AsStr.text c.in_ok-open.open) ∷ []) s) c.in_ok-open.ensures
-    (ap (transition (operand s) (lexeme g.X.AsStr.text c.in_ok-open.open))
-    (kind_seen (kind.Operator sign.LeftParenthesis) r c.in_ok-open.ensures.here)) o
-    (group_begins g.X.AsStr.text g.I.Iterator.next_gives c.take.new.self
-    ((lexeme g.X.AsStr.text c.in_ok-open.open) ∷ []) s (sym c.sees.ensures ∙ c.if-sees.false) o
-    (q.leads (grouping ((lexeme g.X.AsStr.text c.in_ok-open.open) ∷ []) s) refl o
-    (step_to (have c.in_ok-first.first.level q.part (grouping ((lexeme g.X.AsStr.text c.in_ok-open.open) ∷ []) s))
-    (item_due in_tuple (more_exprs q.part.tree no_exprs) ((lexeme g.X.AsStr.text c.in_ok-open.open)
-    ∷ (q.part.tokens ++ ((lexeme g.X.AsStr.text c.in_ok-expect.field-0) ∷ []))) s) c.in_ok-expect.ensures.taken
-    (ap (transition (have c.in_ok-first.first.level q.part (grouping ((lexeme g.X.AsStr.text c.in_ok-open.open) ∷ [])
+    step_to (operand s) (group_due ((lexeme g.X.AsStr.text c.in_ok-open.ensures.token) ∷ []) s)
+    c.in_ok-open.ensures.takes
+    (ap (transition (operand s) (lexeme g.X.AsStr.text c.in_ok-open.ensures.token))
+    (kind_seen (kind.Operator sign.LeftParenthesis) r c.in_ok-open.ensures.takes.here)) o
+    (group_begins g.X.AsStr.text g.I.Iterator.next_gives c.take_place.new.self
+    ((lexeme g.X.AsStr.text c.in_ok-open.ensures.token) ∷ []) s (sym c.sees.ensures ∙ c.if-sees.false) o
+    (q.leads (grouping ((lexeme g.X.AsStr.text c.in_ok-open.ensures.token) ∷ []) s) refl o
+    (step_to (have c.in_ok-first.first.level q.part (grouping ((lexeme g.X.AsStr.text c.in_ok-open.ensures.token) ∷ [])
     s))
-    (lexeme g.X.AsStr.text c.in_ok-expect.field-0)) c.in_ok-expect.ensures.kind) o
-    (w in_tuple (more_exprs q.part.tree no_exprs) ((lexeme g.X.AsStr.text c.in_ok-open.open)
-    ∷ (q.part.tokens ++ ((lexeme g.X.AsStr.text c.in_ok-expect.field-0) ∷ []))) s refl))))) c.in_err-items.ensures)
+    (item_due in_tuple (more_exprs q.part.tree no_exprs) ((lexeme g.X.AsStr.text c.in_ok-open.ensures.token)
+    ∷ (q.part.tokens ++ ((lexeme g.X.AsStr.text c.in_ok-expect_place.ensures.token) ∷ []))) s)
+    c.in_ok-expect_place.ensures.takes
+    (ap (transition (have c.in_ok-first.first.level q.part (grouping ((lexeme g.X.AsStr.text c.in_ok-open.ensures.token)
+    ∷ [])
+    s))
+    (lexeme g.X.AsStr.text c.in_ok-expect_place.ensures.token)) c.in_ok-expect_place.ensures.is) o
+    (w in_tuple (more_exprs q.part.tree no_exprs) ((lexeme g.X.AsStr.text c.in_ok-open.ensures.token)
+    ∷ (q.part.tokens ++ ((lexeme g.X.AsStr.text c.in_ok-expect_place.ensures.token) ∷ []))) s refl)))))
+    c.in_err-items.ensures)
 
 pub group-returns-clause-reads : goal.group-returns-clause-reads
 group-returns-clause-reads g t c = let q = c.in_ok-first.ensures.reads in let n = c.in_ok-items.ensures in
     bracketed g.X.AsStr g.I.Iterator in_tuple
-    (more_exprs q.part.tree no_exprs) ((lexeme g.X.AsStr.text c.in_ok-open.open)
-    ∷ (q.part.tokens ++ ((lexeme g.X.AsStr.text c.in_ok-expect.field-0) ∷ [])))
-    (n.lists in_tuple (more_exprs q.part.tree no_exprs) ((lexeme g.X.AsStr.text c.in_ok-open.open)
-    ∷ (q.part.tokens ++ ((lexeme g.X.AsStr.text c.in_ok-expect.field-0) ∷ []))) refl
+    (more_exprs q.part.tree no_exprs) ((lexeme g.X.AsStr.text c.in_ok-open.ensures.token)
+    ∷ (q.part.tokens ++ ((lexeme g.X.AsStr.text c.in_ok-expect_place.ensures.token) ∷ [])))
+    (n.lists in_tuple (more_exprs q.part.tree no_exprs) ((lexeme g.X.AsStr.text c.in_ok-open.ensures.token)
+    ∷ (q.part.tokens ++ ((lexeme g.X.AsStr.text c.in_ok-expect_place.ensures.token) ∷ []))) refl
     (c.in_ok-push.ensures no_exprs q.part c.new-some.ensures q.keeps))
-    (starts_one (lexeme g.X.AsStr.text c.in_ok-open.open) _)
-    (λ u e. same_place c.in_ok-open.ensures.here e) (λ s r o x. step_to (operand s)
-    (group_due ((lexeme g.X.AsStr.text c.in_ok-open.open) ∷ []) s) c.in_ok-open.ensures
-    (ap (transition (operand s) (lexeme g.X.AsStr.text c.in_ok-open.open))
-    (kind_seen (kind.Operator sign.LeftParenthesis) r c.in_ok-open.ensures.here)) o
-    (group_begins g.X.AsStr.text g.I.Iterator.next_gives c.take.new.self
-    ((lexeme g.X.AsStr.text c.in_ok-open.open) ∷ []) s (sym c.sees.ensures ∙ c.if-sees.false) o
-    (q.leads (grouping ((lexeme g.X.AsStr.text c.in_ok-open.open) ∷ []) s) refl o
-    (step_to (have c.in_ok-first.first.level q.part (grouping ((lexeme g.X.AsStr.text c.in_ok-open.open) ∷ []) s))
-    (item_due in_tuple (more_exprs q.part.tree no_exprs) ((lexeme g.X.AsStr.text c.in_ok-open.open)
-    ∷ (q.part.tokens ++ ((lexeme g.X.AsStr.text c.in_ok-expect.field-0) ∷ []))) s) c.in_ok-expect.ensures.taken
-    (ap (transition (have c.in_ok-first.first.level q.part (grouping ((lexeme g.X.AsStr.text c.in_ok-open.open) ∷ [])
+    (starts_at (lexeme g.X.AsStr.text c.in_ok-open.ensures.token) _ c.in_ok-open.ensures.starts)
+    (λ u e. same_place c.in_ok-open.ensures.takes.here e) (λ s r o x. step_to (operand s)
+    (group_due ((lexeme g.X.AsStr.text c.in_ok-open.ensures.token) ∷ []) s) c.in_ok-open.ensures.takes
+    (ap (transition (operand s) (lexeme g.X.AsStr.text c.in_ok-open.ensures.token))
+    (kind_seen (kind.Operator sign.LeftParenthesis) r c.in_ok-open.ensures.takes.here)) o
+    (group_begins g.X.AsStr.text g.I.Iterator.next_gives c.take_place.new.self
+    ((lexeme g.X.AsStr.text c.in_ok-open.ensures.token) ∷ []) s (sym c.sees.ensures ∙ c.if-sees.false) o
+    (q.leads (grouping ((lexeme g.X.AsStr.text c.in_ok-open.ensures.token) ∷ []) s) refl o
+    (step_to (have c.in_ok-first.first.level q.part (grouping ((lexeme g.X.AsStr.text c.in_ok-open.ensures.token) ∷ [])
     s))
-    (lexeme g.X.AsStr.text c.in_ok-expect.field-0)) c.in_ok-expect.ensures.kind) o (x))))) c.tuple-2.ensures.0
+    (item_due in_tuple (more_exprs q.part.tree no_exprs) ((lexeme g.X.AsStr.text c.in_ok-open.ensures.token)
+    ∷ (q.part.tokens ++ ((lexeme g.X.AsStr.text c.in_ok-expect_place.ensures.token) ∷ []))) s)
+    c.in_ok-expect_place.ensures.takes
+    (ap (transition (have c.in_ok-first.first.level q.part (grouping ((lexeme g.X.AsStr.text c.in_ok-open.ensures.token)
+    ∷ [])
+    s))
+    (lexeme g.X.AsStr.text c.in_ok-expect_place.ensures.token)) c.in_ok-expect_place.ensures.is) o (x)))))
+    c.tuple-2.ensures.0
     c.tuple-2.ensures.1 n.ready (omega (
       arith,
-      c.in_ok-open.ensures.later,
+      c.in_ok-open.ensures.takes.later,
       q.later,
-      c.in_ok-expect.ensures.taken.later,
+      c.in_ok-expect_place.ensures.takes.later,
       n.later,
     ))
+
+pub index-returns-in_err-key : goal.index-returns-in_err-key
+index-returns-in_err-key g t c = let p = err_from_is_err_and c.from_residual.result c.from_residual.ensures.1 in
+    rw (p.1, p.2) (blame (λ o w. λ k q s kq. w (indexing q.tree (q.tokens ++ (k ∷ [])) s) refl)
+    c.in_err-key.ensures.reads)
+
+pub index-returns-in_err-close : goal.index-returns-in_err-close
+index-returns-in_err-close g t c = let p = err_from_is_err_and c.from_residual-in_err-close.result
+    c.from_residual-in_err-close.ensures.1 in
+    rw (p.1, p.2) (blame (λ o w. λ k r s kr. let q = c.in_ok-key.ensures.reads in
+    q.leads (indexing r.tree (r.tokens ++ (k ∷ [])) s) refl o
+    (w (have c.in_ok-key.key.level q.part (indexing r.tree (r.tokens ++ (k ∷ [])) s))
+    (needs_end g.X.AsStr.text (kind.Operator sign.RightBracket) c.in_ok-key.key.level q.part
+    (indexing r.tree (r.tokens ++ (k ∷ [])) s) c.operators.new.self refl c.in_ok-key.ensures.over
+    c.in_ok-key.ensures.undotted
+    (λ u e n. index_unended r.tree (r.tokens ++ (k ∷ [])) s q.part (lexeme g.X.AsStr.text u) u.kind n))))
+    c.in_err-close.ensures)
+
+pub index-returns : goal.index-returns
+index-returns g t c = let k = c.in_ok-close.ensures in on_result c.indexed.result _ _ _
+    (λ o j. indexed_with g.X.AsStr g.I.Iterator c.in_ok-key.ensures.reads k.takes k.is k.ends j.0 j.1) c.indexed.ensures
 
 pub items-loop-alloc-init : goal.items-loop-alloc-init
 items-loop-alloc-init g t c = record {
@@ -537,12 +539,12 @@ items-returns-in_err-last g t c = let p = err_from_is_err_and c.from_residual.re
     v.leads s o (w (at (item_due h v.items (ts ++ v.more) s)) (λ _. refl))) c.in_err-last.ensures)
 
 pub items-returns-then-sees : goal.items-returns-then-sees
-items-returns-then-sees g t c = let k = c.in_ok-last.ensures in record {
+items-returns-then-sees g t c = let k = c.in_ok-last.ensures.takes in record {
   ready = k.ready;
   later = omega (arith, c.loop-alloc.invariant.later, k.later);
   lists = λ h xs ts cl kept. items_end g.X.AsStr g.I.Iterator (c.loop-alloc.invariant.lists h xs ts cl) k
       (kind_seen (kind.Operator c.args.close) (sym c.sees.ensures ∙ c.if-sees.true) k.here
-      ∙ sym (closer_is h c.args.close cl)) kept;
+      ∙ sym (closer_is h c.args.close cl)) c.in_ok-last.ensures.ends kept;
 }
 
 pub items-returns-in_err-item : goal.items-returns-in_err-item
@@ -566,40 +568,29 @@ items-returns-in_err-last-2 g t c = let p = err_from_is_err_and c.from_residual-
     c.in_ok-item.ensures.undotted
     (λ u e n. item_unended h c.args.close v.items (ts ++ v.more) s q.part (lexeme g.X.AsStr.text u) u.kind cl
     (not_seen (kind.Operator sign.Comma) (sym c.sees-in-loop-alloc.ensures ∙ c.if-not-sees.true) e) n))))
-    c.in_err-last-2.ensures.taken)
+    c.in_err-last-2.ensures)
 
 pub items-returns-then-not-sees : goal.items-returns-then-not-sees
 items-returns-then-not-sees g t c = let k = c.in_ok-last-2.ensures in let q = c.in_ok-item.ensures.reads in record {
-  ready = k.taken.ready;
-  later = omega (arith, c.loop-alloc.invariant.later, q.later, k.taken.later);
+  ready = k.takes.ready;
+  later = omega (arith, c.loop-alloc.invariant.later, q.later, k.takes.later);
   lists = λ h xs ts cl kept. item_last g.X.AsStr g.I.Iterator (c.loop-alloc.invariant.lists h xs ts cl)
       (not_closer c.loop-alloc.self.ahead h c.args.close cl (sym c.sees.ensures ∙ c.if-sees.false)) q
-      c.in_ok-push.ensures k.taken (k.kind ∙ sym (closer_is h c.args.close cl)) kept;
+      c.in_ok-push.ensures k.takes (k.is ∙ sym (closer_is h c.args.close cl)) k.ends kept;
 }
 
-pub items-returns-in_err-take : goal.items-returns-in_err-take
-items-returns-in_err-take g t c = let p = err_from_is_err_and c.from_residual-in_err-take.result
-    c.from_residual-in_err-take.ensures.1 in
+pub items-returns-in_err-skip : goal.items-returns-in_err-skip
+items-returns-in_err-skip g t c = let p = err_from_is_err_and c.from_residual-in_err-skip.result
+    c.from_residual-in_err-skip.ensures.1 in
     rw (p.1, p.2) (blame (λ o w. λ h xs ts s cl. let v = c.loop-alloc.invariant.lists h xs ts cl in let q =
     c.in_ok-item.ensures.reads in item_read g.X.AsStr g.I.Iterator v s
     (not_closer c.loop-alloc.self.ahead h c.args.close cl
     (sym c.sees.ensures ∙ c.if-sees.false)) q o
     (w (at (have c.in_ok-item.item.level q.part (listing h v.items (ts ++ v.more) s))) (λ _. refl)))
-    c.in_err-take.ensures)
-
-pub items-loop-alloc-preserved-in_ok-take : goal.items-loop-alloc-preserved-in_ok-take
-items-loop-alloc-preserved-in_ok-take g t c = let k = c.in_ok-take.ensures in let q = c.in_ok-item.ensures.reads in
-    record {
-      ready = k.ready;
-      later = omega (arith, c.loop-alloc.invariant.later, q.later, k.later);
-      lists = λ h xs ts cl. item_more g.X.AsStr g.I.Iterator (c.loop-alloc.invariant.lists h xs ts cl)
-          (not_closer c.loop-alloc.self.ahead h c.args.close cl (sym c.sees.ensures ∙ c.if-sees.false)) q
-          c.in_ok-push.ensures k
-          (kind_seen (kind.Operator sign.Comma) (sym c.sees-in-loop-alloc.ensures ∙ c.if-not-sees.false) k.here);
-    }
+    c.in_err-skip.ensures)
 
 pub items-loop-alloc-preserved : goal.items-loop-alloc-preserved
-items-loop-alloc-preserved g t c = let k = c.in_ok-take.ensures in let q = c.in_ok-item.ensures.reads in record {
+items-loop-alloc-preserved g t c = let k = c.in_ok-skip.ensures.takes in let q = c.in_ok-item.ensures.reads in record {
   ready = k.ready;
   later = omega (arith, c.loop-alloc.invariant.later, q.later, k.later);
   lists = λ h xs ts cl. item_more g.X.AsStr g.I.Iterator
@@ -634,110 +625,95 @@ keywords-returns-in_err-close g t c = let p = err_from_is_err_and c.from_residua
     c.in_ok-value.ensures.over c.in_ok-value.ensures.undotted
     (λ u e n. keyword_unended f xs v.arguments (name_of c.loop-name.name) (ts ++ v.more) s q.part
     (lexeme g.X.AsStr.text u) u.kind (not_seen (kind.Operator sign.Comma) (sym c.sees.ensures ∙ c.if-not-sees.true)
-    e) n)))) c.in_err-close.ensures.taken)
+    e) n)))) c.in_err-close.ensures)
 
 pub keywords-returns-then-not-sees : goal.keywords-returns-then-not-sees
 keywords-returns-then-not-sees g t c = let k = c.in_ok-close.ensures in let q = c.in_ok-value.ensures.reads in record {
-  ready = k.taken.ready;
-  later = omega (arith, c.loop-name.invariant.later, q.later, k.taken.later);
+  ready = k.takes.ready;
+  later = omega (arith, c.loop-name.invariant.later, q.later, k.takes.later);
   names = λ e xs ts. argument_last g.X.AsStr g.I.Iterator
-      (c.loop-name.invariant.names e xs ts) q (λ ks v. c.in_ok-push.ensures ks v) k.taken k.kind;
+      (c.loop-name.invariant.names e xs ts) q (λ ks v. c.in_ok-push.ensures ks v) k.takes k.is k.ends;
 }
 
-pub keywords-returns-in_err-take : goal.keywords-returns-in_err-take
-keywords-returns-in_err-take g t c = let p = err_from_is_err_and c.from_residual-in_err-take.result
-    c.from_residual-in_err-take.ensures.1 in
+pub keywords-returns-in_err-skip : goal.keywords-returns-in_err-skip
+keywords-returns-in_err-skip g t c = let p = err_from_is_err_and c.from_residual-in_err-skip.result
+    c.from_residual-in_err-skip.ensures.1 in
     rw (p.1, p.2) (blame (λ o w. λ f xs ts s. let v = c.loop-name.invariant.names f xs ts in let q =
     c.in_ok-value.ensures.reads in argument_read g.X.AsStr g.I.Iterator v s q o
     (w (at (have c.in_ok-value.value.level q.part (naming f xs v.arguments (name_of c.loop-name.name) (ts ++ v.more)
-    s))) (λ _. refl))) c.in_err-take.ensures)
+    s))) (λ _. refl))) c.in_err-skip.ensures)
 
 pub keywords-returns-in_err-close-2 : goal.keywords-returns-in_err-close-2
 keywords-returns-in_err-close-2 g t c = let p = err_from_is_err_and c.from_residual-in_err-close-2.result
     c.from_residual-in_err-close-2.ensures.1 in
     rw (p.1, p.2) (blame (λ o w. λ f xs ts s. let v = c.loop-name.invariant.names f xs ts in let q =
-    c.in_ok-value.ensures.reads in argument_more g.X.AsStr g.I.Iterator v s q c.in_ok-take.ensures
+    c.in_ok-value.ensures.reads in argument_more g.X.AsStr g.I.Iterator v s q c.in_ok-skip.ensures.takes
     (kind_seen (kind.Operator sign.Comma)
-    (sym c.sees.ensures ∙ c.if-not-sees.false) c.in_ok-take.ensures.here) o
+    (sym c.sees.ensures ∙ c.if-not-sees.false) c.in_ok-skip.ensures.takes.here) o
     (w (at (keyword_due f xs (add_keyword v.arguments (name_of c.loop-name.name) q.part.tree)
-    (ts ++ (v.more ++ (q.part.tokens ++ ((lexeme g.X.AsStr.text c.in_ok-take.field-0) ∷ [])))) s)) (λ _. refl)))
+    (ts ++ (v.more ++ (q.part.tokens ++ ((lexeme g.X.AsStr.text c.in_ok-skip.ensures.token) ∷ [])))) s)) (λ _. refl)))
     c.in_err-close-2.ensures)
 
 pub keywords-returns-then-sees : goal.keywords-returns-then-sees
-keywords-returns-then-sees g t c = let k = c.in_ok-close-2.ensures in let q = c.in_ok-value.ensures.reads in record {
-  ready = k.ready;
-  later = omega (arith, c.loop-name.invariant.later, q.later, c.in_ok-take.ensures.later, k.later);
-  names = λ e xs ts. arguments_end g.X.AsStr g.I.Iterator
-      (c.loop-name.invariant.names e xs ts) q (λ ks v. c.in_ok-push.ensures ks v) c.in_ok-take.ensures
-      (kind_seen (kind.Operator sign.Comma) (sym c.sees.ensures ∙ c.if-not-sees.false) c.in_ok-take.ensures.here) k
-      (kind_seen (kind.Operator sign.RightParenthesis) (sym c.sees-in-loop-name.ensures ∙ c.if-sees.true)
-      c.in_ok-close-2.ensures.here);
-}
+keywords-returns-then-sees g t c = let k = c.in_ok-close-2.ensures.takes in let q = c.in_ok-value.ensures.reads in
+    record {
+      ready = k.ready;
+      later = omega (arith, c.loop-name.invariant.later, q.later, c.in_ok-skip.ensures.takes.later, k.later);
+      names = λ e xs ts. arguments_end g.X.AsStr g.I.Iterator
+          (c.loop-name.invariant.names e xs ts) q (λ ks v. c.in_ok-push.ensures ks v) c.in_ok-skip.ensures.takes
+          (kind_seen (kind.Operator sign.Comma) (sym c.sees.ensures ∙ c.if-not-sees.false) c.in_ok-skip.ensures.takes.here)
+          k
+          (kind_seen (kind.Operator sign.RightParenthesis) (sym c.sees-in-loop-name.ensures ∙ c.if-sees.true)
+          c.in_ok-close-2.ensures.takes.here) c.in_ok-close-2.ensures.ends;
+    }
 
 pub keywords-returns-in_err-name : goal.keywords-returns-in_err-name
 keywords-returns-in_err-name g t c = let p = err_from_is_err_and c.from_residual-in_err-name.result
     c.from_residual-in_err-name.ensures.1 in
     rw (p.1, p.2) (blame (λ o w. λ f xs ts s. let v = c.loop-name.invariant.names f xs ts in let q =
-    c.in_ok-value.ensures.reads in argument_more g.X.AsStr g.I.Iterator v s q c.in_ok-take.ensures
+    c.in_ok-value.ensures.reads in argument_more g.X.AsStr g.I.Iterator v s q c.in_ok-skip.ensures.takes
     (kind_seen (kind.Operator sign.Comma)
-    (sym c.sees.ensures ∙ c.if-not-sees.false) c.in_ok-take.ensures.here) o
+    (sym c.sees.ensures ∙ c.if-not-sees.false) c.in_ok-skip.ensures.takes.here) o
     (w (keyword_due f xs (add_keyword v.arguments (name_of c.loop-name.name) q.part.tree)
-    (ts ++ (v.more ++ (q.part.tokens ++ ((lexeme g.X.AsStr.text c.in_ok-take.field-0) ∷ [])))) s)
+    (ts ++ (v.more ++ (q.part.tokens ++ ((lexeme g.X.AsStr.text c.in_ok-skip.ensures.token) ∷ [])))) s)
     (needs_name g.X.AsStr.text f xs (add_keyword v.arguments (name_of c.loop-name.name) q.part.tree)
-    (ts ++ (v.more ++ (q.part.tokens ++ ((lexeme g.X.AsStr.text c.in_ok-take.field-0) ∷ [])))) s c.take.new.self
+    (ts ++ (v.more ++ (q.part.tokens ++ ((lexeme g.X.AsStr.text c.in_ok-skip.ensures.token) ∷ [])))) s c.skip.new.self
     (sym c.sees-in-loop-name.ensures ∙ c.if-sees.false)))) c.in_err-name.ensures)
 
-pub keywords-returns-in_err-expect : goal.keywords-returns-in_err-expect
-keywords-returns-in_err-expect g t c = let p = err_from_is_err_and c.from_residual-in_err-expect.result
-    c.from_residual-in_err-expect.ensures.1 in
+pub keywords-returns-in_err-expect_place : goal.keywords-returns-in_err-expect_place
+keywords-returns-in_err-expect_place g t c = let p = err_from_is_err_and c.from_residual-in_err-expect_place.result
+    c.from_residual-in_err-expect_place.ensures.1 in
     rw (p.1, p.2) (blame (λ o w. λ f xs ts s. let v = c.loop-name.invariant.names f xs ts in let q =
-    c.in_ok-value.ensures.reads in name_read g.X.AsStr g.I.Iterator v s q c.in_ok-take.ensures
+    c.in_ok-value.ensures.reads in name_read g.X.AsStr g.I.Iterator v s q c.in_ok-skip.ensures.takes
     (kind_seen (kind.Operator sign.Comma)
-    (sym c.sees.ensures ∙ c.if-not-sees.false) c.in_ok-take.ensures.here) c.in_ok-name.ensures o
+    (sym c.sees.ensures ∙ c.if-not-sees.false) c.in_ok-skip.ensures.takes.here) c.in_ok-name.ensures o
     (w (keyword_named f xs (add_keyword v.arguments (name_of c.loop-name.name) q.part.tree)
     (name_of c.in_ok-name.name)
-    ((ts ++ (v.more ++ (q.part.tokens ++ ((lexeme g.X.AsStr.text c.in_ok-take.field-0) ∷ []))))
+    ((ts ++ (v.more ++ (q.part.tokens ++ ((lexeme g.X.AsStr.text c.in_ok-skip.ensures.token) ∷ []))))
     ++ ((lexeme g.X.AsStr.text c.in_ok-name.ensures.token) ∷ [])) s)
     (needs (λ u. operand (naming f xs (add_keyword v.arguments (name_of c.loop-name.name) q.part.tree)
     (name_of c.in_ok-name.name)
-    (((ts ++ (v.more ++ (q.part.tokens ++ ((lexeme g.X.AsStr.text c.in_ok-take.field-0) ∷ []))))
+    (((ts ++ (v.more ++ (q.part.tokens ++ ((lexeme g.X.AsStr.text c.in_ok-skip.ensures.token) ∷ []))))
     ++ ((lexeme g.X.AsStr.text c.in_ok-name.ensures.token) ∷ [])) ++ (u ∷ [])) s)) refl (λ u k. refl))))
-    c.in_err-expect.ensures.taken)
+    c.in_err-expect_place.ensures)
 
-pub keywords-loop-name-preserved-in_ok-expect : goal.keywords-loop-name-preserved-in_ok-expect
-keywords-loop-name-preserved-in_ok-expect g t c = let k = c.in_ok-expect.ensures in let q =
-    c.in_ok-value.ensures.reads in record {
-      ready = k.taken.ready;
+pub keywords-loop-name-preserved : goal.keywords-loop-name-preserved
+keywords-loop-name-preserved g t c = let k = c.in_ok-expect_place.ensures in let q = c.in_ok-value.ensures.reads in
+    record {
+      ready = k.takes.ready;
       later = omega (
         arith,
         c.loop-name.invariant.later,
         q.later,
-        c.in_ok-take.ensures.later,
+        c.in_ok-skip.ensures.takes.later,
         c.in_ok-name.ensures.takes.later,
-        k.taken.later,
+        k.takes.later,
       );
       names = λ e xs ts. names_more g.X.AsStr g.I.Iterator
-          (c.loop-name.invariant.names e xs ts) q (λ ks v. c.in_ok-push.ensures ks v) c.in_ok-take.ensures
-          (kind_seen (kind.Operator sign.Comma) (sym c.sees.ensures ∙ c.if-not-sees.false) c.in_ok-take.ensures.here)
-          c.in_ok-name.ensures k.taken k.kind;
+          (c.loop-name.invariant.names e xs ts) q (λ ks v. c.in_ok-push.ensures ks v) c.in_ok-skip.ensures.takes
+          (kind_seen (kind.Operator sign.Comma) (sym c.sees.ensures ∙ c.if-not-sees.false) c.in_ok-skip.ensures.takes.here)
+          c.in_ok-name.ensures k.takes k.is;
     }
-
-pub keywords-loop-name-preserved : goal.keywords-loop-name-preserved
-keywords-loop-name-preserved g t c = let k = c.in_ok-expect.ensures in let q = c.in_ok-value.ensures.reads in record {
-  ready = k.taken.ready;
-  later = omega (
-    arith,
-    c.loop-name.invariant.later,
-    q.later,
-    c.in_ok-take.ensures.later,
-    c.in_ok-name.ensures.takes.later,
-    k.taken.later,
-  );
-  names = λ e xs ts. names_more g.X.AsStr g.I.Iterator
-      (c.loop-name.invariant.names e xs ts) q (λ ks v. c.in_ok-push.ensures ks v) c.in_ok-take.ensures
-      (kind_seen (kind.Operator sign.Comma) (sym c.sees.ensures ∙ c.if-not-sees.false) c.in_ok-take.ensures.here)
-      c.in_ok-name.ensures k.taken k.kind;
-}
 
 pub operators-returns-in_err-infix-clause-reads : goal.operators-returns-in_err-infix-clause-reads
 operators-returns-in_err-infix-clause-reads g t c = let p = err_from_is_err_and c.from_residual-in_err-infix.result
@@ -807,118 +783,89 @@ operators-loop-link-preserved g t c = let i = rw c.in_default-2.is at c.in_ok-in
       undotted = low_undotted _ _ (omega (arith, n.level_is));
     }
 
-pub postfix-returns-in_err-take-clause-reads : goal.postfix-returns-in_err-take-clause-reads
-postfix-returns-in_err-take-clause-reads g t c = let p = err_from_is_err_and c.from_residual-in_err-take.result
-    c.from_residual-in_err-take.ensures.1 in
+pub postfix-returns-in_err-skip-clause-reads : goal.postfix-returns-in_err-skip-clause-reads
+postfix-returns-in_err-skip-clause-reads g t c = let p = err_from_is_err_and c.from_residual-in_err-skip.result
+    c.from_residual-in_err-skip.ensures.1 in
     rw (p.1, p.2) (blame (λ o w. λ s r. let v = c.loop-self.invariant.gives in
-    v.leads s r o (w (at (have c.loop-self.operand.level v.part s)) (λ _. refl))) c.in_err-take.ensures)
+    v.leads s r o (w (at (have c.loop-self.operand.level v.part s)) (λ _. refl))) c.in_err-skip.ensures)
 
 pub postfix-returns-in_err-operand-2-clause-reads : goal.postfix-returns-in_err-operand-2-clause-reads
 postfix-returns-in_err-operand-2-clause-reads g t c = let p =
     err_from_is_err_and c.from_residual-in_err-operand-2.result c.from_residual-in_err-operand-2.ensures.1 in
     rw (p.1, p.2) (blame (λ o w. λ s r. let v = c.loop-self.invariant.gives in
     v.leads s r o (step_to (have c.loop-self.operand.level v.part s)
-    (dotted v.part ((lexeme g.X.AsStr.text c.in_ok-take.field-0) ∷ []) s) c.in_ok-take.ensures
-    (dot_turn c.loop-self.operand.level v.part s (lexeme g.X.AsStr.text c.in_ok-take.field-0) _ v.low
-    (kind_seen (kind.Operator sign.Dot) (sym c.sees.ensures ∙ c.if-sees.true) c.in_ok-take.ensures.here)) o
-    (w (lexeme g.X.AsStr.text c.in_ok-take.field-0) v.part s v.keeps))) c.in_err-operand-2.ensures)
+    (dotted v.part ((lexeme g.X.AsStr.text c.in_ok-skip.ensures.token) ∷ []) s) c.in_ok-skip.ensures.takes
+    (dot_turn c.loop-self.operand.level v.part s (lexeme g.X.AsStr.text c.in_ok-skip.ensures.token) _ v.low
+    (kind_seen (kind.Operator sign.Dot) (sym c.sees.ensures ∙ c.if-sees.true) c.in_ok-skip.ensures.takes.here)) o
+    (w (lexeme g.X.AsStr.text c.in_ok-skip.ensures.token) v.part s v.keeps))) c.in_err-operand-2.ensures)
 
 pub postfix-loop-self-preserved-then-sees : goal.postfix-loop-self-preserved-then-sees
 postfix-loop-self-preserved-then-sees g t c = let v = c.loop-self.invariant.gives in
     record {
       gives = goes_on g.X.AsStr g.I.Iterator
-          (λ d p s. dotted p (d ∷ []) s) (lexeme g.X.AsStr.text c.in_ok-take.field-0) v c.in_ok-take.ensures
-          (λ s. (dot_turn c.loop-self.operand.level v.part s (lexeme g.X.AsStr.text c.in_ok-take.field-0) _ v.low
-          (kind_seen (kind.Operator sign.Dot) (sym c.sees.ensures ∙ c.if-sees.true) c.in_ok-take.ensures.here)))
+          (λ d p s. dotted p (d ∷ []) s) (lexeme g.X.AsStr.text c.in_ok-skip.ensures.token) v c.in_ok-skip.ensures.takes
+          (λ s. (dot_turn c.loop-self.operand.level v.part s (lexeme g.X.AsStr.text c.in_ok-skip.ensures.token) _ v.low
+          (kind_seen (kind.Operator sign.Dot) (sym c.sees.ensures ∙ c.if-sees.true) c.in_ok-skip.ensures.takes.here)))
           c.in_ok-operand-2.ensures;
       level_is = c.in_ok-operand-2.ensures.level_is;
     }
 
-pub postfix-returns-in_err-take-2-clause-reads : goal.postfix-returns-in_err-take-2-clause-reads
-postfix-returns-in_err-take-2-clause-reads g t c = let p = err_from_is_err_and c.from_residual-in_err-take-2.result
-    c.from_residual-in_err-take-2.ensures.1 in
+pub postfix-returns-in_err-skip-2-clause-reads : goal.postfix-returns-in_err-skip-2-clause-reads
+postfix-returns-in_err-skip-2-clause-reads g t c = let p = err_from_is_err_and c.from_residual-in_err-skip-2.result
+    c.from_residual-in_err-skip-2.ensures.1 in
     rw (p.1, p.2) (blame (λ o w. λ s r. let v = c.loop-self.invariant.gives in
-    v.leads s r o (w (at (have c.loop-self.operand.level v.part s)) (λ _. refl))) c.in_err-take-2.ensures)
+    v.leads s r o (w (at (have c.loop-self.operand.level v.part s)) (λ _. refl))) c.in_err-skip-2.ensures)
 
-pub postfix-returns-in_err-key-clause-reads : goal.postfix-returns-in_err-key-clause-reads
-postfix-returns-in_err-key-clause-reads g t c = let p = err_from_is_err_and c.from_residual-in_err-key.result
-    c.from_residual-in_err-key.ensures.1 in
+pub postfix-returns-in_err-operand-3-clause-reads : goal.postfix-returns-in_err-operand-3-clause-reads
+postfix-returns-in_err-operand-3-clause-reads g t c = let p =
+    err_from_is_err_and c.from_residual-in_err-operand-3.result c.from_residual-in_err-operand-3.ensures.1 in
     rw (p.1, p.2) (blame (λ o w. λ s r. let v = c.loop-self.invariant.gives in
     v.leads s r o (step_to (have c.loop-self.operand.level v.part s)
-    (operand (indexing v.part.tree (v.part.tokens ++ ((lexeme g.X.AsStr.text c.in_ok-take-2.field-0) ∷ [])) s))
-    c.in_ok-take-2.ensures (index_turn c.loop-self.operand.level v.part s
-    (lexeme g.X.AsStr.text c.in_ok-take-2.field-0) _ v.low (kind_seen (kind.Operator sign.LeftBracket)
-    (sym c.sees-else-sees.ensures ∙ c.if-sees-2.true) c.in_ok-take-2.ensures.here)) o
-    (w (indexing v.part.tree (v.part.tokens ++ ((lexeme g.X.AsStr.text c.in_ok-take-2.field-0) ∷ [])) s) refl)))
-    c.in_err-key.ensures.reads)
+    (operand (indexing v.part.tree (v.part.tokens ++ ((lexeme g.X.AsStr.text c.in_ok-skip-2.ensures.token) ∷ [])) s))
+    c.in_ok-skip-2.ensures.takes (index_turn c.loop-self.operand.level v.part s
+    (lexeme g.X.AsStr.text c.in_ok-skip-2.ensures.token) _ v.low (kind_seen (kind.Operator sign.LeftBracket)
+    (sym c.sees-else-sees.ensures ∙ c.if-sees-2.true) c.in_ok-skip-2.ensures.takes.here)) o
+    (w (lexeme g.X.AsStr.text c.in_ok-skip-2.ensures.token) v.part s v.keeps))) c.in_err-operand-3.ensures)
 
-pub postfix-returns-in_err-close-clause-reads : goal.postfix-returns-in_err-close-clause-reads
-postfix-returns-in_err-close-clause-reads g t c = let p = err_from_is_err_and c.from_residual-in_err-close.result
-    c.from_residual-in_err-close.ensures.1 in
-    rw (p.1, p.2) (blame (λ o w. λ s r. let v = c.loop-self.invariant.gives in let q = c.in_ok-key.ensures.reads in
-    v.leads s r o (step_to (have c.loop-self.operand.level v.part s)
-    (operand (indexing v.part.tree (v.part.tokens ++ ((lexeme g.X.AsStr.text c.in_ok-take-2.field-0) ∷ [])) s))
-    c.in_ok-take-2.ensures (index_turn c.loop-self.operand.level v.part s
-    (lexeme g.X.AsStr.text c.in_ok-take-2.field-0) _ v.low (kind_seen (kind.Operator sign.LeftBracket)
-    (sym c.sees-else-sees.ensures ∙ c.if-sees-2.true) c.in_ok-take-2.ensures.here)) o
-    (q.leads (indexing v.part.tree (v.part.tokens ++ ((lexeme g.X.AsStr.text c.in_ok-take-2.field-0) ∷ [])) s) refl
-    o
-    (w (have c.in_ok-key.key.level q.part (indexing v.part.tree
-    (v.part.tokens ++ ((lexeme g.X.AsStr.text c.in_ok-take-2.field-0) ∷ [])) s))
-    (needs_end g.X.AsStr.text (kind.Operator sign.RightBracket) c.in_ok-key.key.level q.part
-    (indexing v.part.tree (v.part.tokens ++ ((lexeme g.X.AsStr.text c.in_ok-take-2.field-0) ∷ [])) s)
-    c.operators.new.self refl c.in_ok-key.ensures.over c.in_ok-key.ensures.undotted
-    (λ u e n. index_unended v.part.tree (v.part.tokens ++ ((lexeme g.X.AsStr.text c.in_ok-take-2.field-0) ∷ [])) s
-    q.part (lexeme g.X.AsStr.text u) u.kind n)))))) c.in_err-close.ensures.taken)
-
-pub postfix-loop-self-preserved-in_ok-operand-3 : goal.postfix-loop-self-preserved-in_ok-operand-3
-postfix-loop-self-preserved-in_ok-operand-3 g t c = let v = c.loop-self.invariant.gives in
+pub postfix-loop-self-preserved-then-sees-2 : goal.postfix-loop-self-preserved-then-sees-2
+postfix-loop-self-preserved-then-sees-2 g t c = let v = c.loop-self.invariant.gives in
     record {
-      gives = index_on g.X.AsStr g.I.Iterator v
-          c.in_ok-take-2.ensures (kind_seen (kind.Operator sign.LeftBracket)
-          (sym c.sees-else-sees.ensures ∙ c.if-sees-2.true)
-          c.in_ok-take-2.ensures.here) c.in_ok-key.ensures.reads c.in_ok-close.ensures.taken c.in_ok-close.ensures.kind
-          c.in_ok-operand-3.ensures.0 c.in_ok-operand-3.ensures.1;
-      level_is = c.in_ok-operand-3.ensures.0;
+      gives = goes_on g.X.AsStr g.I.Iterator
+          (λ d p s. operand (indexing p.tree (p.tokens ++ (d ∷ [])) s))
+          (lexeme g.X.AsStr.text c.in_ok-skip-2.ensures.token) v c.in_ok-skip-2.ensures.takes
+          (λ s. (index_turn c.loop-self.operand.level v.part s (lexeme g.X.AsStr.text c.in_ok-skip-2.ensures.token) _
+          v.low (kind_seen (kind.Operator sign.LeftBracket) (sym c.sees-else-sees.ensures ∙ c.if-sees-2.true)
+          c.in_ok-skip-2.ensures.takes.here))) c.in_ok-operand-3.ensures;
+      level_is = c.in_ok-operand-3.ensures.level_is;
     }
 
-pub postfix-loop-self-preserved-in_ok-operand-3-2 : goal.postfix-loop-self-preserved-in_ok-operand-3-2
-postfix-loop-self-preserved-in_ok-operand-3-2 g t c = let v = c.loop-self.invariant.gives in
-    record {
-      gives = index_on g.X.AsStr g.I.Iterator v
-          c.in_ok-take-2.ensures (kind_seen (kind.Operator sign.LeftBracket)
-          (sym c.sees-else-sees.ensures ∙ c.if-sees-2.true)
-          c.in_ok-take-2.ensures.here) c.in_ok-key.ensures.reads c.in_ok-close.ensures.taken c.in_ok-close.ensures.kind
-          c.in_ok-operand-3.ensures.0 c.in_ok-operand-3.ensures.1;
-      level_is = c.in_ok-operand-3.ensures.0;
-    }
-
-pub postfix-returns-in_err-take-3-clause-reads : goal.postfix-returns-in_err-take-3-clause-reads
-postfix-returns-in_err-take-3-clause-reads g t c = let p = err_from_is_err_and c.from_residual-in_err-take-3.result
-    c.from_residual-in_err-take-3.ensures.1 in
+pub postfix-returns-in_err-skip-3-clause-reads : goal.postfix-returns-in_err-skip-3-clause-reads
+postfix-returns-in_err-skip-3-clause-reads g t c = let p = err_from_is_err_and c.from_residual-in_err-skip-3.result
+    c.from_residual-in_err-skip-3.ensures.1 in
     rw (p.1, p.2) (blame (λ o w. λ s r. let v = c.loop-self.invariant.gives in
-    v.leads s r o (w (at (have c.loop-self.operand.level v.part s)) (λ _. refl))) c.in_err-take-3.ensures)
+    v.leads s r o (w (at (have c.loop-self.operand.level v.part s)) (λ _. refl))) c.in_err-skip-3.ensures)
 
 pub postfix-returns-in_err-operand-4-clause-reads : goal.postfix-returns-in_err-operand-4-clause-reads
 postfix-returns-in_err-operand-4-clause-reads g t c = let p =
     err_from_is_err_and c.from_residual-in_err-operand-4.result c.from_residual-in_err-operand-4.ensures.1 in
     rw (p.1, p.2) (blame (λ o w. λ s r. let v = c.loop-self.invariant.gives in
     v.leads s r o (step_to (have c.loop-self.operand.level v.part s)
-    (item_due (in_call v.part.tree) no_exprs (v.part.tokens ++ ((lexeme g.X.AsStr.text c.in_ok-take-3.field-0)
-    ∷ [])) s) c.in_ok-take-3.ensures (call_turn c.loop-self.operand.level v.part s
-    (lexeme g.X.AsStr.text c.in_ok-take-3.field-0) _ v.low (kind_seen (kind.Operator sign.LeftParenthesis)
-    (sym c.sees-else-sees-2.ensures ∙ c.if-sees-3.true) c.in_ok-take-3.ensures.here)) o
-    (w (lexeme g.X.AsStr.text c.in_ok-take-3.field-0) v.part s v.keeps))) c.in_err-operand-4.ensures)
+    (item_due (in_call v.part.tree) no_exprs (v.part.tokens ++ ((lexeme g.X.AsStr.text c.in_ok-skip-3.ensures.token)
+    ∷ [])) s) c.in_ok-skip-3.ensures.takes (call_turn c.loop-self.operand.level v.part s
+    (lexeme g.X.AsStr.text c.in_ok-skip-3.ensures.token) _ v.low (kind_seen (kind.Operator sign.LeftParenthesis)
+    (sym c.sees-else-sees-2.ensures ∙ c.if-sees-3.true) c.in_ok-skip-3.ensures.takes.here)) o
+    (w (lexeme g.X.AsStr.text c.in_ok-skip-3.ensures.token) v.part s v.keeps))) c.in_err-operand-4.ensures)
 
 pub postfix-loop-self-preserved : goal.postfix-loop-self-preserved
 postfix-loop-self-preserved g t c = let v = c.loop-self.invariant.gives in
     record {
       gives = goes_on g.X.AsStr g.I.Iterator
           (λ d p s. item_due (in_call p.tree) no_exprs (p.tokens ++ (d ∷ [])) s)
-          (lexeme g.X.AsStr.text c.in_ok-take-3.field-0) v c.in_ok-take-3.ensures
-          (λ s. (call_turn c.loop-self.operand.level v.part s (lexeme g.X.AsStr.text c.in_ok-take-3.field-0) _ v.low
+          (lexeme g.X.AsStr.text c.in_ok-skip-3.ensures.token) v c.in_ok-skip-3.ensures.takes
+          (λ s. (call_turn c.loop-self.operand.level v.part s (lexeme g.X.AsStr.text c.in_ok-skip-3.ensures.token) _
+          v.low
           (kind_seen (kind.Operator sign.LeftParenthesis) (sym c.sees-else-sees-2.ensures ∙ c.if-sees-3.true)
-          c.in_ok-take-3.ensures.here))) c.in_ok-operand-4.ensures;
+          c.in_ok-skip-3.ensures.takes.here))) c.in_ok-operand-4.ensures;
       level_is = c.in_ok-operand-4.ensures.level_is;
     }
 
@@ -938,10 +885,11 @@ signed-returns-in_err-signs-clause-reads g t c = let p = err_from_is_err_and c.f
     c.from_residual-in_err-signs.ensures.1 in
     rw (p.1, p.2)
     (blame (λ o w. λ s r. step_to (operand s)
-    (operand (applying denial ((lexeme g.X.AsStr.text c.in_ok-first.first) ∷ []) s)) c.in_ok-first.ensures
-    (sign_turn denial s (lexeme g.X.AsStr.text c.in_ok-first.first) _
-    (kind_seen (kind.Keyword word.Not) (sym c.sees.ensures ∙ c.if-sees.true) c.in_ok-first.ensures.here)
-    (omega (arith, r))) o (w (applying denial ((lexeme g.X.AsStr.text c.in_ok-first.first) ∷ []) s) (omega arith)))
+    (operand (applying denial ((lexeme g.X.AsStr.text c.in_ok-first.ensures.token) ∷ []) s)) c.in_ok-first.ensures.takes
+    (sign_turn denial s (lexeme g.X.AsStr.text c.in_ok-first.ensures.token) _
+    (kind_seen (kind.Keyword word.Not) (sym c.sees.ensures ∙ c.if-sees.true) c.in_ok-first.ensures.takes.here)
+    (omega (arith, r))) o (w (applying denial ((lexeme g.X.AsStr.text c.in_ok-first.ensures.token) ∷ []) s) (omega
+    arith)))
     c.in_err-signs.ensures.reads)
 
 pub signed-returns-in_err-operand-clause-reads : goal.signed-returns-in_err-operand-clause-reads
@@ -949,14 +897,16 @@ signed-returns-in_err-operand-clause-reads g t c = let p = err_from_is_err_and c
     c.from_residual-in_err-operand.ensures.1 in
     rw (p.1, p.2)
     (blame (λ o w. λ s r. step_to (operand s)
-    (operand (applying denial ((lexeme g.X.AsStr.text c.in_ok-first.first) ∷ []) s)) c.in_ok-first.ensures
-    (sign_turn denial s (lexeme g.X.AsStr.text c.in_ok-first.first) _
-    (kind_seen (kind.Keyword word.Not) (sym c.sees.ensures ∙ c.if-sees.true) c.in_ok-first.ensures.here)
+    (operand (applying denial ((lexeme g.X.AsStr.text c.in_ok-first.ensures.token) ∷ []) s)) c.in_ok-first.ensures.takes
+    (sign_turn denial s (lexeme g.X.AsStr.text c.in_ok-first.ensures.token) _
+    (kind_seen (kind.Keyword word.Not) (sym c.sees.ensures ∙ c.if-sees.true) c.in_ok-first.ensures.takes.here)
     (omega (arith, r))) o (c.in_ok-signs.ensures.reads.leads (applying denial
-    ((lexeme g.X.AsStr.text c.in_ok-first.first) ∷ []) s) (omega arith) o
+    ((lexeme g.X.AsStr.text c.in_ok-first.ensures.token) ∷ []) s) (omega arith) o
     (w (signs_on denial c.in_ok-signs.ensures.reads.tokens (applying denial
-    ((lexeme g.X.AsStr.text c.in_ok-first.first) ∷ []) s)) (signs_rank_is denial c.in_ok-signs.ensures.reads.tokens
-    (applying denial ((lexeme g.X.AsStr.text c.in_ok-first.first) ∷ []) s) refl)))) c.in_err-operand.ensures.reads)
+    ((lexeme g.X.AsStr.text c.in_ok-first.ensures.token) ∷ []) s)) (signs_rank_is denial
+    c.in_ok-signs.ensures.reads.tokens
+    (applying denial ((lexeme g.X.AsStr.text c.in_ok-first.ensures.token) ∷ []) s) refl))))
+    c.in_err-operand.ensures.reads)
 
 pub signed-wrap-requires : goal.signed-wrap-requires
 signed-wrap-requires g t c = let q = c.in_ok-operand.ensures.reads in let k =
@@ -967,32 +917,36 @@ pub signed-returns-then-sees-clause-reads : goal.signed-returns-then-sees-clause
 signed-returns-then-sees-clause-reads g t c = let q = c.in_ok-operand.ensures.reads in let n =
     (c.in_ok-inner.ensures c.in_ok-signs.ensures.reads.tokens q.part c.in_ok-signs.ensures.reads.starts q.keeps).0 in
     on_result c.wrap.result _ _ _ (λ o j. record {
-      part = (applied_all denial ((lexeme g.X.AsStr.text c.in_ok-first.first) ∷ c.in_ok-signs.ensures.reads.tokens)
+      part = (applied_all denial ((lexeme g.X.AsStr.text c.in_ok-first.ensures.token) ∷
+          c.in_ok-signs.ensures.reads.tokens)
           c.in_ok-operand.ensures.reads.part);
       keeps = j.1 (applied_all denial c.in_ok-signs.ensures.reads.tokens q.part) n _
-          (starts_one (lexeme g.X.AsStr.text c.in_ok-first.first) (applied_all denial c.in_ok-signs.ensures.reads.tokens
-          q.part).tokens) (ends_more ((lexeme g.X.AsStr.text c.in_ok-first.first) ∷ []) n.ends);
+          (starts_at (lexeme g.X.AsStr.text c.in_ok-first.ensures.token) (applied_all denial
+          c.in_ok-signs.ensures.reads.tokens q.part).tokens c.in_ok-first.ensures.starts) (ends_more ((lexeme
+          g.X.AsStr.text c.in_ok-first.ensures.token) ∷ []) n.ends);
       low = omega (arith, j.0);
       ready = q.ready;
-      later = omega (arith, c.in_ok-first.ensures.later, c.in_ok-signs.ensures.reads.later, q.later);
-      begins = λ u e. same_place c.in_ok-first.ensures.here e;
+      later = omega (arith, c.in_ok-first.ensures.takes.later, c.in_ok-signs.ensures.reads.later, q.later);
+      begins = λ u e. same_place c.in_ok-first.ensures.takes.here e;
       leads = λ s r o x. step_to (operand s)
-          (operand (applying denial ((lexeme g.X.AsStr.text c.in_ok-first.first) ∷ []) s)) c.in_ok-first.ensures
-          (sign_turn denial s (lexeme g.X.AsStr.text c.in_ok-first.first) _
-          (kind_seen (kind.Keyword word.Not) (sym c.sees.ensures ∙ c.if-sees.true) c.in_ok-first.ensures.here)
+          (operand (applying denial ((lexeme g.X.AsStr.text c.in_ok-first.ensures.token) ∷ []) s))
+          c.in_ok-first.ensures.takes
+          (sign_turn denial s (lexeme g.X.AsStr.text c.in_ok-first.ensures.token) _
+          (kind_seen (kind.Keyword word.Not) (sym c.sees.ensures ∙ c.if-sees.true) c.in_ok-first.ensures.takes.here)
           (omega (arith, r))) o (c.in_ok-signs.ensures.reads.leads (applying denial
-          ((lexeme g.X.AsStr.text c.in_ok-first.first) ∷ []) s) (omega arith) o
+          ((lexeme g.X.AsStr.text c.in_ok-first.ensures.token) ∷ []) s) (omega arith) o
           (q.leads (signs_on denial c.in_ok-signs.ensures.reads.tokens
-          (applying denial ((lexeme g.X.AsStr.text c.in_ok-first.first) ∷ []) s))
+          (applying denial ((lexeme g.X.AsStr.text c.in_ok-first.ensures.token) ∷ []) s))
           (signs_rank_is denial c.in_ok-signs.ensures.reads.tokens (applying denial
-          ((lexeme g.X.AsStr.text c.in_ok-first.first) ∷ []) s) refl) o
+          ((lexeme g.X.AsStr.text c.in_ok-first.ensures.token) ∷ []) s) refl) o
           (signs_join g.X.AsStr.text g.I.Iterator.next_gives c.operators.new.self denial
-          ((lexeme g.X.AsStr.text c.in_ok-first.first) ∷ c.in_ok-signs.ensures.reads.tokens) q.part s
+          ((lexeme g.X.AsStr.text c.in_ok-first.ensures.token) ∷ c.in_ok-signs.ensures.reads.tokens) q.part s
           c.in_ok-operand.operand.level q.low
           (over_sign _ _ c.in_ok-operand.ensures.over) c.in_ok-operand.ensures.undotted (low_undotted _ 2 (omega arith))
           o (subst (λ z. Came g.X.AsStr.text g.I.Iterator.next_gives c.operators.new.self
           (at
-          (have z (applied_all denial ((lexeme g.X.AsStr.text c.in_ok-first.first) ∷ c.in_ok-signs.ensures.reads.tokens)
+          (have z (applied_all denial ((lexeme g.X.AsStr.text c.in_ok-first.ensures.token) ∷
+          c.in_ok-signs.ensures.reads.tokens)
           c.in_ok-operand.ensures.reads.part) s)) o) j.0 x))));
     }) c.wrap.ensures
 

@@ -33,8 +33,14 @@ decreases-dict g l = 30 * left_in g.I.Iterator.remaining l.self.now + 2
 abbrev pub decreases-items : goal.decreases-items
 decreases-items g l = 30 * left_in g.I.Iterator.remaining l.self.now + 27
 
+abbrev pub decreases-index : goal.decreases-index
+decreases-index g l = 30 * left_in g.I.Iterator.remaining l.self.now + 27
+
 abbrev pub decreases-call : goal.decreases-call
-decreases-call g l = 30 * left_in g.I.Iterator.remaining l.self.now + 27
+decreases-call g l = 30 * left_in g.I.Iterator.remaining l.self.now + 28
+
+abbrev pub decreases-arguments : goal.decreases-arguments
+decreases-arguments g l = 30 * left_in g.I.Iterator.remaining l.self.now + 27
 
 abbrev pub decreases-keywords : goal.decreases-keywords
 decreases-keywords g l = 30 * left_in g.I.Iterator.remaining l.self.now + 27
@@ -76,22 +82,22 @@ invariant-dict-loop-self g l = record {
   ready : IsReady g.I.Iterator.can_next g.I.Iterator.remaining l.self;
   later : left_in g.I.Iterator.remaining l.self < left_in g.I.Iterator.remaining l.fn.self;
   entries : EntriesSoFar g.X.AsStr g.I.Iterator l.fn.self
-      l.self l.open.place.start l.entries;
+      l.self l.open.start l.entries;
 }
 
 abbrev pub decreases-dict-loop-self : goal.decreases-dict-loop-self
 decreases-dict-loop-self g l = left_in g.I.Iterator.remaining l.self
 
-abbrev pub invariant-call-loop-self : goal.invariant-call-loop-self
-invariant-call-loop-self g l = record {
+abbrev pub invariant-arguments-loop-self : goal.invariant-arguments-loop-self
+invariant-arguments-loop-self g l = record {
   ready : IsReady g.I.Iterator.can_next g.I.Iterator.remaining l.self;
   later : left_in g.I.Iterator.remaining l.self ≤ left_in g.I.Iterator.remaining l.fn.self;
   arguments : (e : Expr) (ts : List Lexeme) → ElementsSoFar g.X.AsStr g.I.Iterator (Unit {0}) l.fn.self l.self l.items
       (in_call e) no_exprs ts;
 }
 
-abbrev pub decreases-call-loop-self : goal.decreases-call-loop-self
-decreases-call-loop-self g l = left_in g.I.Iterator.remaining l.self
+abbrev pub decreases-arguments-loop-self : goal.decreases-arguments-loop-self
+decreases-arguments-loop-self g l = left_in g.I.Iterator.remaining l.self
 
 abbrev pub invariant-keywords-loop-name : goal.invariant-keywords-loop-name
 invariant-keywords-loop-name g l = record {

@@ -20,45 +20,26 @@ returns-in_err-sign-clause-reads g c = let p = err_from_is_err_and c.from_residu
     c.in_err-sign.ensures)
 
 pub loop-kind-preserved : goal.loop-kind-preserved
-loop-kind-preserved g c = let v = c.loop-kind.invariant in let h = c.in_ok-sign.ensures in record {
-  tokens = v.tokens ++ ((lexeme g.X.AsStr.text c.in_ok-sign.sign) ∷ []);
-  starts = starts_push v.tokens (lexeme g.X.AsStr.text c.in_ok-sign.sign)
-      ∙ ap (λ z. z ++ (c.in_ok-sign.sign.place.start ∷ [])) v.starts ∙ sym c.in_ok-push.ensures.items;
+loop-kind-preserved g c = let v = c.loop-kind.invariant in let h = c.in_ok-sign.ensures.takes in record {
+  tokens = v.tokens ++ ((lexeme g.X.AsStr.text c.in_ok-sign.ensures.token) ∷ []);
+  starts = starts_push v.tokens (lexeme g.X.AsStr.text c.in_ok-sign.ensures.token)
+      ∙ ap (λ z. z ++ (c.in_ok-sign.ensures.token.place.start ∷ [])) v.starts
+      ∙ ap (λ z. c.loop-kind.signs.items ++ (z ∷ [])) c.in_ok-sign.ensures.starts ∙ sym c.in_ok-push.ensures.items;
   ready = h.ready;
   later = omega (arith, v.later, h.later);
   same = λ e. absurd (some_sign _ _ (sym c.in_ok-push.ensures.items ∙ e));
-  begins = λ us f u e. ap first_place (append_assoc v.tokens ((lexeme g.X.AsStr.text c.in_ok-sign.sign) ∷ []) us)
-      ∙ v.begins ((lexeme g.X.AsStr.text c.in_ok-sign.sign) ∷ us) (λ z d. same_place h.here d) u e;
+  begins = λ us f u e. ap first_place (append_assoc v.tokens ((lexeme g.X.AsStr.text c.in_ok-sign.ensures.token) ∷ [])
+      us)
+      ∙ v.begins ((lexeme g.X.AsStr.text c.in_ok-sign.ensures.token) ∷ us) (λ z d. same_place h.here d) u e;
   leads = λ s w o x. v.leads s w o (step_to (operand (signs_on (prefix_of c.args.prefix) v.tokens s))
-      (operand (applying (prefix_of c.args.prefix) ((lexeme g.X.AsStr.text c.in_ok-sign.sign) ∷ [])
+      (operand (applying (prefix_of c.args.prefix) ((lexeme g.X.AsStr.text c.in_ok-sign.ensures.token) ∷ [])
       (signs_on (prefix_of c.args.prefix) v.tokens s))) h
       (sign_turn (prefix_of c.args.prefix) (signs_on (prefix_of c.args.prefix) v.tokens s)
-      (lexeme g.X.AsStr.text c.in_ok-sign.sign) _ (kind_seen (prefix_kind (prefix_of c.args.prefix))
+      (lexeme g.X.AsStr.text c.in_ok-sign.ensures.token) _ (kind_seen (prefix_kind (prefix_of c.args.prefix))
       (ap (λ z. IsAhead z c.loop-kind.self.ahead) (sym c.kind-kind.ensures) ∙ sym c.sees.ensures
       ∙ c.loop-kind-test.true) h.here) (takes_signs (prefix_of c.args.prefix) v.tokens s w)) o
-      (subst (λ z. Came g.X.AsStr.text g.I.Iterator.next_gives c.take.new.self (at (operand z)) o)
-      (signs_more (prefix_of c.args.prefix) v.tokens (lexeme g.X.AsStr.text c.in_ok-sign.sign) s) x));
-}
-
-pub loop-kind-preserved-in_ok-push : goal.loop-kind-preserved-in_ok-push
-loop-kind-preserved-in_ok-push g c = let v = c.loop-kind.invariant in let h = c.in_ok-sign.ensures in record {
-  tokens = v.tokens ++ ((lexeme g.X.AsStr.text c.in_ok-sign.sign) ∷ []);
-  starts = starts_push v.tokens (lexeme g.X.AsStr.text c.in_ok-sign.sign)
-      ∙ ap (λ z. z ++ (c.in_ok-sign.sign.place.start ∷ [])) v.starts ∙ sym c.in_ok-push.ensures.items;
-  ready = h.ready;
-  later = omega (arith, v.later, h.later);
-  same = λ e. absurd (some_sign _ _ (sym c.in_ok-push.ensures.items ∙ e));
-  begins = λ us f u e. ap first_place (append_assoc v.tokens ((lexeme g.X.AsStr.text c.in_ok-sign.sign) ∷ []) us)
-      ∙ v.begins ((lexeme g.X.AsStr.text c.in_ok-sign.sign) ∷ us) (λ z d. same_place h.here d) u e;
-  leads = λ s w o x. v.leads s w o (step_to (operand (signs_on (prefix_of c.args.prefix) v.tokens s))
-      (operand (applying (prefix_of c.args.prefix) ((lexeme g.X.AsStr.text c.in_ok-sign.sign) ∷ [])
-      (signs_on (prefix_of c.args.prefix) v.tokens s))) h
-      (sign_turn (prefix_of c.args.prefix) (signs_on (prefix_of c.args.prefix) v.tokens s)
-      (lexeme g.X.AsStr.text c.in_ok-sign.sign) _ (kind_seen (prefix_kind (prefix_of c.args.prefix))
-      (ap (λ z. IsAhead z c.loop-kind.self.ahead) (sym c.kind-kind.ensures) ∙ sym c.sees.ensures
-      ∙ c.loop-kind-test.true) h.here) (takes_signs (prefix_of c.args.prefix) v.tokens s w)) o
-      (subst (λ z. Came g.X.AsStr.text g.I.Iterator.next_gives c.take.new.self (at (operand z)) o)
-      (signs_more (prefix_of c.args.prefix) v.tokens (lexeme g.X.AsStr.text c.in_ok-sign.sign) s) x));
+      (subst (λ z. Came g.X.AsStr.text g.I.Iterator.next_gives c.take_place.new.self (at (operand z)) o)
+      (signs_more (prefix_of c.args.prefix) v.tokens (lexeme g.X.AsStr.text c.in_ok-sign.ensures.token) s) x));
 }
 
 pub loop-kind-init : goal.loop-kind-init

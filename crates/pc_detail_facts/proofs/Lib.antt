@@ -1,0 +1,4 @@
+pub mod CalledParameters
+pub mod Held
+pub mod Results
+pub mod TypeTexts

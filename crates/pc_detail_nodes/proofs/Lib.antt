@@ -1,0 +1,4 @@
+pub mod NodesByPlace
+pub mod Placed
+pub mod PlacesMarked
+pub mod WalkedLists

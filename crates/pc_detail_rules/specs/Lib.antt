@@ -1,0 +1,14 @@
+pub mod Annotations
+pub mod CallLaws
+pub mod Calls
+pub mod Explains
+pub mod Facts
+pub mod Laws
+pub mod Names
+pub mod Nodes
+pub mod Noted
+pub mod Operations
+pub mod Overrides
+pub mod Sinks
+pub mod Statements
+pub mod ToldTypes

@@ -1,0 +1,73 @@
+//! Laws of details: a detail is given exactly where its rule is broken.
+
+ghost use Rattle.pc_detail_rules.specs.Annotations.{ClashesAreExact};
+ghost use Rattle.pc_detail_rules.specs.CallLaws.{MethodMisfitsAreExact, NameMisfitsAreExact, ValueMisfitsAreExact};
+ghost use Rattle.pc_detail_rules.specs.Calls.{MisfitsAreExact};
+ghost use Rattle.pc_detail_rules.specs.Laws.{DynamicDetailsAreFlows, DynamicFlowsAreNotStatic};
+ghost use Rattle.pc_detail_rules.specs.Laws.{WrongFlowsAreNotAssignable};
+ghost use Rattle.pc_detail_rules.specs.Noted.{DetailsAreReadOffNotes, NotesTellWhatIsKnown};
+ghost use Rattle.pc_detail_rules.specs.Operations.{LackingIsExact};
+ghost use Rattle.pc_detail_rules.specs.Overrides.{OverrideFaultsAreExact, OverridesAreExplained};
+
+/// A call suits a signature exactly if its arguments have no misfit.
+pub fn misfits_are_exact()
+    ensures { MisfitsAreExact }
+{}
+
+/// A call of a value is an error at the call exactly if there is a misfit.
+pub fn value_misfits_are_exact()
+    ensures { ValueMisfitsAreExact }
+{}
+
+/// A method call on a member of the object's type is an error at the call exactly if there is a misfit.
+pub fn method_misfits_are_exact()
+    ensures { MethodMisfitsAreExact }
+{}
+
+/// A call of a name in a body is an error at the call exactly if there is a misfit.
+pub fn name_misfits_are_exact()
+    ensures { NameMisfitsAreExact }
+{}
+
+/// An operation is an error on a type exactly if there is a member of the type on which it is.
+pub fn lacking_is_exact()
+    ensures { LackingIsExact }
+{}
+
+/// Parts make a union exactly if there is no clash among them.
+pub fn clashes_are_exact()
+    ensures { ClashesAreExact }
+{}
+
+/// A method is good against one above exactly if no part differs, and static to it likewise.
+pub fn override_faults_are_exact()
+    ensures { OverrideFaultsAreExact }
+{}
+
+/// A method has a detail exactly if there is a method above that it does not fit.
+pub fn overrides_are_explained()
+    ensures { OverridesAreExplained }
+{}
+
+/// The notes of a check that keeps types tell what is known under the module's lawful labelling: the type at each
+/// place, and the first wrong and the first dynamic flow there.
+pub fn notes_tell_what_is_known()
+    ensures { NotesTellWhatIsKnown }
+{}
+
+/// A detail explains a finding exactly if the rule of its code gives it over what the notes of such a check tell.
+pub fn details_are_read_off_notes()
+    ensures { DetailsAreReadOffNotes }
+{}
+
+/// The two types of a detail of A1 are those that flow dynamically at its place: the first is assignable to the second,
+/// but not static to it.
+pub fn dynamic_details_are_flows()
+    ensures flows { DynamicDetailsAreFlows }
+    ensures types { DynamicFlowsAreNotStatic }
+{}
+
+/// The first type of a detail of E12 is not assignable to the second.
+pub fn wrong_details_are_wrong()
+    ensures { WrongFlowsAreNotAssignable }
+{}

@@ -1,0 +1,11 @@
+//! The definitions of the details of findings, and the laws about them.
+#![tactic(auto)]
+
+mod laws;
+
+pub use laws::{
+    clashes_are_exact, details_are_read_off_notes, dynamic_details_are_flows, lacking_is_exact,
+    method_misfits_are_exact, misfits_are_exact, name_misfits_are_exact, notes_tell_what_is_known,
+    override_faults_are_exact, overrides_are_explained, value_misfits_are_exact,
+    wrong_details_are_wrong,
+};

@@ -1,0 +1,231 @@
+//! The sentence of a detail.
+
+ghost use Rattle.std.specs.Prelude.{◌≡◌, ◌++◌, OnOk, string_bytes, codes};
+ghost use Rattle.pc_detail_texts.specs.Details.{attribute, contain};
+ghost use Rattle.pc_detail_texts.specs.Sentences.{function_text, callable_text, between_text, operation_text, hint_text};
+ghost use Rattle.pc_detail_texts.specs.Sentences.{where_it_is, override_text, error_sentence, doubt, sentence_of};
+ghost use Rattle.pc_detail_texts.specs.Shown.{words, all_words, function_of_value, callable_of_value, operator_of_value};
+ghost use Rattle.pc_detail_texts.specs.Shown.{hint_of_value, override_of_value, type_fault_of_value, detail_of_value};
+
+use crate::details::{
+    Attribute, AttributeHint, Callable, Detail, FunctionName, OperatorUse, OverrideFault,
+    TypeFault, Unsupported,
+};
+use crate::phrases::{push_between, push_callable, push_operator, push_text, push_where};
+use crate::reasons::{push_flow, push_misfit, push_override, push_sink};
+use crate::rules::push_rule_fault;
+use pc_source::OutOfMemory;
+use pc_tree::Code;
+
+/// Appends the hint about a missing attribute.
+fn push_hint(text: &mut String, name: &str, hint: &AttributeHint) -> Result<(), OutOfMemory>
+    ensures { OnOk result (string_bytes text.new
+        ≡ string_bytes text.old ++ hint_text name.now (hint_of_value hint.now)) }
+{
+    match hint {
+        AttributeHint::Nothing => Ok(()),
+        AttributeHint::OnlyCalled => Ok(write!(text, ", but a method {name} to call")?),
+        AttributeHint::Below(class) => Ok(write!(text, ", but its subclass {class} has")?),
+    }
+}
+
+/// Appends what is known of an attribute that an object does not have.
+fn push_attribute(text: &mut String, missing: &Attribute) -> Result<(), OutOfMemory>
+    ensures { OnOk result (string_bytes text.new ≡ string_bytes text.old ++ error_sentence (attribute
+        (words missing.now.of.object) (all_words missing.now.of.lacking.items) (words missing.now.name)
+        (hint_of_value missing.now.hint))) }
+{
+    write!(
+        text,
+        "{} has no attribute {}",
+        missing.of.object, missing.name
+    )?;
+    push_where(text, &missing.of)?;
+    push_hint(text, &missing.name, &missing.hint)
+}
+
+/// Appends that an operator is not defined for its operands.
+fn push_undefined(text: &mut String, operator: &OperatorUse) -> Result<(), OutOfMemory>
+    ensures { OnOk result (string_bytes text.new ≡ string_bytes text.old
+        ++ (operation_text (operator_of_value operator.now) ++ codes " is not defined")) }
+{
+    push_operator(text, operator)?;
+    Ok(text.push_str(" is not defined")?)
+}
+
+/// Appends what is said of an object, between two texts, and the members that are at fault.
+fn push_lacking(
+    text: &mut String,
+    before: &str,
+    of: &Unsupported,
+    after: &str,
+) -> Result<(), OutOfMemory>
+    ensures { OnOk result (string_bytes text.new ≡ string_bytes text.old ++ (before.now
+        ++ (words of.now.object ++ (after.now
+        ++ where_it_is (words of.now.object) (all_words of.now.lacking.items))))) }
+{
+    write!(text, "{before}{}{after}", of.object)?;
+    push_where(text, of)
+}
+
+/// Appends that `in` is not defined for its operands, and the members that are at fault.
+fn push_uncontained(text: &mut String, sought: &str, of: &Unsupported) -> Result<(), OutOfMemory>
+    ensures { OnOk result (string_bytes text.new ≡ string_bytes text.old
+        ++ error_sentence (contain sought.now (words of.now.object) (all_words of.now.lacking.items))) }
+{
+    push_between(text, sought, "in", &of.object)?;
+    text.push_str(" is not defined")?;
+    push_where(text, of)
+}
+
+/// Appends what is wrong with types that do not fit.
+fn push_type_fault(text: &mut String, fault: &TypeFault) -> Result<(), OutOfMemory>
+    ensures { OnOk result (string_bytes text.new
+        ≡ string_bytes text.old ++ error_sentence (type_fault_of_value fault.now)) }
+{
+    match fault {
+        TypeFault::Flow(flow) => {
+            text.push_str("cannot ")?;
+            push_flow(text, flow)
+        }
+        TypeFault::Operator(operator) => push_undefined(text, operator),
+        TypeFault::Call(callable, misfit) => push_misfit(text, callable, misfit),
+        TypeFault::Attribute(attribute) => push_attribute(text, attribute),
+        TypeFault::Index(of, _) => push_lacking(text, "", of, " has no items"),
+        TypeFault::Store(of) => push_lacking(text, "items of ", of, " cannot be assigned"),
+        TypeFault::Iterate(of) => push_lacking(text, "", of, " cannot be looped over"),
+        TypeFault::IterateRange(_) => push_text(text, "this call of range does not fit"),
+        TypeFault::Contain(sought, of) => push_uncontained(text, sought, of),
+        TypeFault::Length(of) => push_lacking(text, "", of, " has no length"),
+        TypeFault::ListTest(name, _) => push_list_test(text, name),
+        TypeFault::Override(above, _, fault) => push_override(text, above, fault),
+    }
+}
+
+/// Appends that the items of a list are not known.
+fn push_list_test(text: &mut String, name: &str) -> Result<(), OutOfMemory>
+    ensures { OnOk result (string_bytes text.new ≡ string_bytes text.old
+        ++ (codes "the items of list " ++ (name.now ++ codes " are not known"))) }
+{
+    Ok(write!(text, "the items of list {name} are not known")?)
+}
+
+/// Appends that an operator may not be defined for its operands.
+fn push_maybe_defined(text: &mut String, operator: &OperatorUse) -> Result<(), OutOfMemory>
+    ensures { OnOk result (string_bytes text.new ≡ string_bytes text.old
+        ++ (codes "whether " ++ (operation_text (operator_of_value operator.now) ++ codes " is defined"))) }
+{
+    text.push_str("whether ")?;
+    push_operator(text, operator)?;
+    Ok(text.push_str(" is defined")?)
+}
+
+/// Appends that a callee may not be one.
+fn push_maybe_called(text: &mut String, callable: &Callable) -> Result<(), OutOfMemory>
+    ensures { OnOk result (string_bytes text.new ≡ string_bytes text.old
+        ++ (codes "whether " ++ (callable_text (callable_of_value callable.now) ++ codes " can be called"))) }
+{
+    text.push_str("whether ")?;
+    push_callable(text, callable)?;
+    Ok(text.push_str(" can be called")?)
+}
+
+/// Appends that an object may not have an attribute.
+fn push_maybe_attribute(text: &mut String, object: &str, name: &str) -> Result<(), OutOfMemory>
+    ensures { OnOk result (string_bytes text.new ≡ string_bytes text.old
+        ++ (codes "whether " ++ (object.now ++ (codes " has attribute " ++ name.now)))) }
+{
+    Ok(write!(text, "whether {object} has attribute {name}")?)
+}
+
+/// Appends a type between two texts.
+fn push_doubted(text: &mut String, before: &str, ty: &str, after: &str) -> Result<(), OutOfMemory>
+    ensures { OnOk result (string_bytes text.new
+        ≡ string_bytes text.old ++ (before.now ++ (ty.now ++ after.now))) }
+{
+    Ok(write!(text, "{before}{ty}{after}")?)
+}
+
+/// Appends that `in` may not be defined for its operands.
+fn push_maybe_contained(text: &mut String, sought: &str, object: &str) -> Result<(), OutOfMemory>
+    ensures { OnOk result (string_bytes text.new ≡ string_bytes text.old
+        ++ (codes "whether " ++ (between_text sought.now (codes "in") object.now ++ codes " is defined"))) }
+{
+    text.push_str("whether ")?;
+    push_between(text, sought, "in", object)?;
+    Ok(text.push_str(" is defined")?)
+}
+
+/// Appends that a method may not fit one above.
+fn push_maybe_override(
+    text: &mut String,
+    above: &FunctionName,
+    fault: &OverrideFault,
+) -> Result<(), OutOfMemory>
+    ensures { OnOk result (string_bytes text.new ≡ string_bytes text.old
+        ++ (codes "whether this method fits, since "
+        ++ override_text (function_text (function_of_value above.now)) (override_of_value fault.now))) }
+{
+    text.push_str("whether this method fits, since ")?;
+    push_override(text, above, fault)
+}
+
+/// Appends what cannot be told of types.
+fn push_doubt(text: &mut String, fault: &TypeFault) -> Result<(), OutOfMemory>
+    ensures { OnOk result (string_bytes text.new
+        ≡ string_bytes text.old ++ doubt (type_fault_of_value fault.now)) }
+{
+    match fault {
+        TypeFault::Flow(flow) => {
+            write!(text, "whether {} fits ", flow.from)?;
+            push_sink(text, &flow.into, &flow.sink)
+        }
+        TypeFault::Operator(operator) => push_maybe_defined(text, operator),
+        TypeFault::Call(callable, _) => push_maybe_called(text, callable),
+        TypeFault::Attribute(a) => push_maybe_attribute(text, &a.of.object, &a.name),
+        TypeFault::Index(of, _) => push_doubted(text, "whether ", &of.object, " has items"),
+        TypeFault::Store(of) => {
+            push_doubted(text, "whether items of ", &of.object, " can be assigned")
+        }
+        TypeFault::Iterate(of) => {
+            push_doubted(text, "whether ", &of.object, " can be looped over")
+        }
+        TypeFault::IterateRange(_) => push_text(text, "what this call of range gives"),
+        TypeFault::Contain(sought, of) => push_maybe_contained(text, sought, &of.object),
+        TypeFault::Length(of) => push_doubted(text, "whether ", &of.object, " has a length"),
+        TypeFault::ListTest(name, _) => push_doubted(text, "what the items of list ", name, " are"),
+        TypeFault::Override(above, _, fault) => push_maybe_override(text, above, fault),
+    }
+}
+
+/// Appends what is wrong at an error.
+fn push_error(text: &mut String, detail: &Detail) -> Result<(), OutOfMemory>
+    ensures { OnOk result (string_bytes text.new
+        ≡ string_bytes text.old ++ error_sentence (detail_of_value detail.now)) }
+{
+    match detail {
+        Detail::Types(fault) => push_type_fault(text, fault),
+        Detail::Rule(fault) => push_rule_fault(text, fault),
+    }
+}
+
+/// Appends the sentence of a detail of a finding with this code: what is wrong at an error, or what cannot be told at a
+/// dynamic place.
+///
+/// # Errors
+///
+/// `OutOfMemory` if an allocation failed.
+#[tactic(auto, using(crate::proofs::Cases::rule_doubt))]
+pub fn push_sentence(text: &mut String, code: Code, detail: &Detail) -> Result<(), OutOfMemory>
+    ensures { OnOk result (string_bytes text.new
+        ≡ string_bytes text.old ++ sentence_of code (detail_of_value detail.now)) }
+{
+    if code.is_error() {
+        return push_error(text, detail);
+    }
+    text.push_str("cannot tell ")?;
+    match detail {
+        Detail::Types(fault) => push_doubt(text, fault),
+        Detail::Rule(fault) => push_rule_fault(text, fault),
+    }
+}

@@ -1,5 +1,0 @@
-use Rattle.pc_details.proofs.Misfits.{misfits_exact}
-use Rattle.pc_details.proofs.laws.misfits_are_exact.Goals as goal
-
-pub returns : goal.returns
-returns c = misfits_exact

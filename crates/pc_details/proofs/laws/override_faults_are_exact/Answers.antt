@@ -1,5 +1,0 @@
-use Rattle.pc_details.proofs.OverrideFaults.{override_faults_exact}
-use Rattle.pc_details.proofs.laws.override_faults_are_exact.Goals as goal
-
-pub returns : goal.returns
-returns c = override_faults_exact

@@ -1,0 +1,12 @@
+pub mod Arguments
+pub mod EachSink
+pub mod Kept
+pub mod KeptFlow
+pub mod NotStored
+pub mod OwnFirst
+pub mod SearchedSinks
+pub mod SinksShown
+pub mod Stored
+pub mod TakenSinks
+pub mod TakesNothing
+pub mod WholeSinks

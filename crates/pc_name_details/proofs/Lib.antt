@@ -1,0 +1,10 @@
+pub mod BoundMembers
+pub mod ClassesAbove
+pub mod FindingsKept
+pub mod FirstNamed
+pub mod LeavingSteps
+pub mod MemberDetails
+pub mod MemberOrders
+pub mod NamingSteps
+pub mod Offered
+pub mod UseSteps

@@ -1,0 +1,3 @@
+pub mod Naming
+pub mod Offered
+pub mod Uses

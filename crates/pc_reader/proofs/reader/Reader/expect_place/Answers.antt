@@ -1,0 +1,11 @@
+use Rattle.std.proofs.Common.{refl}
+use Rattle.pc_reader.proofs.reader.Reader.expect_place.Goals as goal
+
+pub returns : goal.returns
+returns g c = record {
+  token = c.in_ok-token.token;
+  takes = c.in_ok-token.ensures.taken;
+  is = c.in_ok-token.ensures.kind;
+  starts = refl;
+  ends = refl;
+}

@@ -1,0 +1,19 @@
+use Rattle.std.proofs.Common.{◌≡◌, List, ℕ, Option, drop, string_bytes, take}
+use Rattle.std.specs.List.{flat_map}
+use Rattle.pc_tree.specs.declared.code.Finding.{Finding}
+use Rattle.pc_detail_texts.specs.Details.{Detail}
+use Rattle.pc_detail_texts.specs.Sentences.{Words}
+use Rattle.pc_report.specs.Report.{row_findings}
+use Rattle.pc_top.specs.DetailedTexts.{detailed_line}
+use Rattle.pc_top.specs.PrintedDetails.{AreLeft}
+use Rattle.pc_top.proofs.detailed.DetailedReport.to_text.Given as goal
+
+abbrev pub invariant-loop-row : goal.invariant-loop-row
+invariant-loop-row l = record {
+  left : (source : List ℕ) (told : Finding → Option (Detail Words))
+      → AreLeft source told (row_findings l.row-items) l.self.details.items
+      → AreLeft source told (row_findings (drop l.row-index l.row-items)) l.details;
+  text : (source : List ℕ) (told : Finding → Option (Detail Words))
+      → AreLeft source told (row_findings l.row-items) l.self.details.items
+      → string_bytes l.text ≡ flat_map (detailed_line source told) (take l.row-index l.row-items);
+}

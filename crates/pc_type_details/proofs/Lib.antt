@@ -1,0 +1,12 @@
+pub mod AnnotationFaults
+pub mod AnnotationNodes
+pub mod CallSteps
+pub mod CallsShown
+pub mod ClashSteps
+pub mod ClassesBelow
+pub mod DisplayNodes
+pub mod GivenNames
+pub mod Keys
+pub mod LargeTypes
+pub mod RangeCalls
+pub mod Unsupported
