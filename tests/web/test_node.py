@@ -20,7 +20,7 @@ VOCABULARY = ("--json", "--format", "1", "2", "3", "--format=1", "--format=2", "
               "--json=", "--help=1", "--version=", "--", "-h", "-V", "--help", "--version", "-hV", "-Vx", "-xh", "a.py",
               "b.py", "-", "", "-x", "-\u00e9", "-\n", "--nope", "--forma", "--jsn", "--hlep", "--=", "--=1", "---", "--nosj",
               "--\U0001f40d", "--json --format", "x\ny", "'", "--a'b", "--jsonformat", "--verhelp", "--types", "--types=1",
-              "--typs", "--type")
+              "--typs", "--type", "--details", "--details=1", "--detail", "--detials")
 # The characters of misspelt names of options
 LETTERS = "jsonfrmathelpviy-"
 # Lines with which the command itself is started: each kind of mistake, and requests beside one
@@ -32,10 +32,15 @@ MISTAKES = ((), ("--nope",), ("--nope", "a.py"), ("a.py", "--nope"), ("--json", 
             ("--format", "1", "--json=1"), ("--json", "--help=1"), ("--format", "--help"), ("a.py", "b.py", "--help"),
             ("--types",), ("--types", "--types", "a.py"), ("--types=1", "a.py"), ("--types", "--format", "2", "a.py"),
             ("--format=1", "a.py", "--types"), ("--types", "--format", "3", "a.py"), ("--types", "--format", "2"),
-            ("--types", "--json", "--nope"), ("--type", "a.py"), ("--json", "--typs"))
+            ("--types", "--json", "--nope"), ("--type", "a.py"), ("--json", "--typs"), ("--details",),
+            ("--details", "--details", "a.py"), ("--details=1", "a.py"), ("--details", "--format", "2", "a.py"),
+            ("--format=3", "a.py", "--details"), ("--details", "a.py", "--types"), ("--types", "--details", "--format", "2", "a.py"),
+            ("--detials", "a.py"), ("--json", "--detail"))
 ORDERS = 400
 # How many times as long as the program the check of a large module may take, once the engine has compiled it
 SLOWER = 2
+# How many processes of each take turns when their times are compared
+ROUNDS = 6
 
 
 class Node(RoomCase):
@@ -97,17 +102,24 @@ class Node(RoomCase):
         self.assertRegex(done.stdout.decode(), "^{0}{0}$".format(r"\w+: [1-9]\d+ wanting, [1-9]\d* own\n"))
 
     def test_the_largest_module_is_fast(self) -> None:
-        """Time is measured in seconds of the processor, since other work may take it meanwhile."""
+        """Time is measured in seconds of the processor, since other work may take it meanwhile. That work also takes the
+        caches, and how the pages of a process lie in them can double its time: so several processes of each take turns,
+        and the least counts.
+        """
         file = self.files([large_module(800_000)])[0]
-        begun = resource.getrusage(resource.RUSAGE_CHILDREN)
-        program("--json", file)
-        ended = resource.getrusage(resource.RUSAGE_CHILDREN)
-        alone = ended.ru_utime + ended.ru_stime - begun.ru_utime - begun.ru_stime
-        done = run(*self.need_node(), HERE / "speed.mjs", file)
-        self.assertEqual(done.returncode, 0, done.stderr.decode())
-        spent = [float(it) for it in done.stdout.split()]
-        print(f"0.8 MB: {min(spent):.3f} s warm, {spent[0]:.3f} s at first; the program {alone:.3f} s")
-        self.assertLess(min(spent), SLOWER * alone)
+        alone, first, warm = [], [], []
+        for _ in range(ROUNDS):
+            begun = resource.getrusage(resource.RUSAGE_CHILDREN)
+            program("--json", file)
+            ended = resource.getrusage(resource.RUSAGE_CHILDREN)
+            alone.append(ended.ru_utime + ended.ru_stime - begun.ru_utime - begun.ru_stime)
+            done = run(*self.need_node(), HERE / "speed.mjs", file)
+            self.assertEqual(done.returncode, 0, done.stderr.decode())
+            spent = [float(it) for it in done.stdout.split()]
+            first.append(spent[0])
+            warm += spent[1:]
+        print(f"0.8 MB: {min(warm):.3f} s warm, {min(first):.3f} s at first; the program {min(alone):.3f} s")
+        self.assertLess(min(warm), SLOWER * min(alone))
 
 
 class Command(RoomCase):
@@ -141,7 +153,7 @@ class Command(RoomCase):
         lines = "".join(json.dumps(it) + "\n" for it in orders).encode()
         done = run(*self.need_node(), HERE / "words.mjs", input=lines)
         self.assertEqual(len(done.stdout.splitlines()), len(orders), done.stderr)
-        kinds = {"help": 0, "mistake": 0, "file": 0, "similar": 0, "types": 0}
+        kinds = {"help": 0, "mistake": 0, "file": 0, "similar": 0, "types": 0, "details": 0}
         for words, line in zip(orders, done.stdout.splitlines()):
             found, wanted = json.loads(line), program(*words, cwd=self.room)
             kind = next(it for it in kinds if it in found)
@@ -149,7 +161,8 @@ class Command(RoomCase):
             kinds["similar"] += b"a similar argument exists" in wanted[2]
             if kind == "file":
                 kinds["types"] += found["types"]
-                form = ["--types"] if found["types"] else ["--format", found["format"]]
+                kinds["details"] += found["details"]
+                form = next((["--" + it] for it in ("types", "details") if found[it]), ["--format", found["format"]])
                 plain = (*["--json"] * found["json"], *form, "--", found["file"])
                 self.assertEqual(program(*plain, cwd=self.room), wanted, words)
             elif kind == "help":
@@ -168,11 +181,16 @@ class Command(RoomCase):
         kinds = self.compare_words(orders)
         self.assertGreater(min(kinds[it] for it in ("help", "mistake", "file", "similar")), 10, kinds)
 
-    def test_words_with_types(self) -> None:
+    def test_words_with_types_and_details(self) -> None:
         """Each order of up to four of these words is read as by the program."""
-        words = ("--types", "--json", "a.py", "--format", "2")
+        words = ("--types", "--details", "--json", "a.py", "--format", "2")
         kinds = self.compare_words([order for count in range(5) for order in itertools.permutations(words, count)])
-        self.assertGreater(min(kinds[it] for it in ("mistake", "file", "types")), 10, kinds)
+        self.assertGreater(min(kinds[it] for it in ("mistake", "file", "types", "details")), 10, kinds)
+
+    def test_details_are_told_by_the_program_alone(self) -> None:
+        for words in (("--details", EXAMPLES[0]), ("--json", "--details", "nope.py")):
+            said = b"pycheck: the module of WebAssembly tells no details, only the program does\n"
+            self.assertEqual(self.said(*words), (3, b"", said), words)
 
     def test_mistakes(self) -> None:
         """Each kind of mistake has the bytes and the status that it has in the program."""
