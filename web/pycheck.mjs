@@ -86,6 +86,7 @@ async function run(words) {
   const wanted = asked(words);
   if (wanted.help) return help(wanted.help);
   if (wanted.mistake) return write(2, wanted.mistake), 3;
+  if (wanted.details) return write(2, "pycheck: the module of WebAssembly tells no details, only the program does\n"), 3;
   let bytes;
   try {
     bytes = read(wanted.file);

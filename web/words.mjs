@@ -11,6 +11,7 @@ Arguments:
 Options:
       --json        Write the report as JSON
       --types       List the types of expressions and of bound names, without a report
+      --details     Say in the report what is wrong at each finding
       --format <N>  The report's format: 1, or 2 with the types of each dynamic flow [default: 2]
   -h, --help        Print help
   -V, --version     Print version
@@ -18,7 +19,11 @@ Options:
 const VERSION = "pycheck 1.0.0\n";
 const MORE = "For more information, try '--help'.\n";
 // Each option by its name, as messages show it
-const SHOWN = { json: "--json", types: "--types", format: "--format <N>", help: "--help", version: "--version" };
+const SHOWN = {
+  json: "--json", types: "--types", details: "--details", format: "--format <N>", help: "--help", version: "--version",
+};
+// The options that exclude one another, in the order in which they are compared
+const APART = [["types", "details"], ["types", "format"], ["details", "format"]];
 const REQUESTS = { help: HELP, version: VERSION, h: HELP, V: VERSION };
 // The least likeness of a name that may be meant
 const ALIKE = 0.7;
@@ -174,18 +179,20 @@ class Reader {
     if (this.values.file === undefined) {
       throw withUsage("the following required arguments were not provided:\n  <FILE>", [...this.given, "file"]);
     }
-    const types = this.given.includes("types"), format = this.values.format ?? "2";
-    if (types && this.values.format !== undefined) {
-      throw mistaken(`the argument '${SHOWN.types}' cannot be used with '${SHOWN.format}'`);
+    for (const [one, other] of APART) {
+      if (!this.given.includes(one) || !this.given.includes(other)) continue;
+      throw mistaken(`the argument '${SHOWN[one]}' cannot be used with '${SHOWN[other]}'`);
     }
+    const [json, types, details] = ["json", "types", "details"].map((name) => this.given.includes(name));
+    const format = this.values.format ?? "2";
     if (format !== "1" && format !== "2") {
       throw mistaken(`invalid value '${format}' for '${SHOWN.format}'\n  [possible values: 1, 2]`);
     }
-    return { json: this.given.includes("json"), types, format: Number(format), file: this.values.file };
+    return { json, types, details, format: Number(format), file: this.values.file };
   }
 }
 
-/** Returns the form, whether types are listed, the format and the file of the words; or `help`, or a `mistake`. */
+/** Returns the form, whether types are listed or details told, the format and the file of the words; or `help`, or a `mistake`. */
 export function asked(words) {
   const reader = new Reader();
   try {
