@@ -63,7 +63,7 @@ class Gate(RoomCase):
     def last_lines(self, done: "Done[str]", number: int) -> List[str]:
         """Returns the last lines of the gate, without the time it took, which has to be the very last."""
         *lines, last = done.stderr.splitlines()
-        self.assertRegex(last, r"^the gate took \d+ seconds$")
+        self.assertRegex(last, r"^the gate took \d+ seconds, and \d+ of one processor$")
         return lines[-number:]
 
     def assert_failed(self, done: "Done[str]", steps: str) -> None:
@@ -75,10 +75,21 @@ class Gate(RoomCase):
         self.put_step("tools/check", f"[ $1 != edits ] || cat \"$3\" >'{self.room}/log'")
         done = self.gate()
         self.assertEqual((done.returncode, done.stdout), (0, "75 passed, 0 failed\n"), done.stderr)
-        said, seconds = self.last_lines(done, 2)
+        said, *both = self.last_lines(done, 3)
         self.assertEqual(said, "5 passed, 0 failed, 0 skipped")
-        self.assertRegex(seconds, r"^seconds: proofs \d+ definitions \d+ edits \d+ .* editors \d+ web \d+ wrong_bodies \d+$")
+        for seconds, head in zip(both, ("seconds", "seconds of one processor")):
+            self.assertRegex(seconds, rf"^{head}: proofs \d+ definitions \d+ edits \d+ .* editors \d+ web \d+ wrong_bodies \d+$")
         self.assertEqual((self.room / "log").read_text(encoding="utf-8"), "75 passed, 0 failed\n")
+
+    def test_seconds_of_one_processor_are_those_of_all_programs_of_a_part(self) -> None:
+        self.put_step("tests/tools/run", "for each in 1 2; do (i=0; while [ $i -lt 3000000 ]; do i=$((i+1)); done) & done; wait")
+        done = self.gate()
+        seconds = self.last_lines(done, 1)[0]
+        told = dict(re.findall(r"(\w+) (\d+)", seconds.partition(": ")[2]))
+        took = re.search(r"\d+(?= of one processor$)", done.stderr.rstrip())
+        self.assertGreater(int(told["tools"]), 0, seconds)
+        self.assertLess(int(told["links"]), int(told["tools"]), seconds)
+        self.assertTrue(took and int(took[0]) >= int(told["tools"]), done.stderr)
 
     def test_a_shipped_byte_that_was_not_built_fails(self) -> None:
         program = bytearray(self.shipped("pyrun"))
@@ -184,7 +195,8 @@ class Gate(RoomCase):
         for words in ([], ["../log"]):
             done = self.gate("--steps", *words)
             self.assertEqual((done.returncode, done.stdout), (0, ""), done.stderr)
-            self.assertRegex(self.last_lines(done, 1)[0], r"^seconds: programs \d+ definitions \d+ .* wrong_bodies \d+$")
+            for seconds, head in zip(self.last_lines(done, 2), ("seconds", "seconds of one processor")):
+                self.assertRegex(seconds, rf"^{head}: programs \d+ definitions \d+ .* wrong_bodies \d+$")
         asked = (self.room / "asked").read_text(encoding="utf-8").splitlines()
         self.assertEqual(asked, ["1edits", f"3edits --log {(self.room / 'log').resolve()}"])
         self.assertFalse((self.room / "proved").exists())

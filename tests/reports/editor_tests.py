@@ -1,17 +1,14 @@
 """The language server for a project with a core, `--server`: sessions over files of the test's folder."""
 from __future__ import annotations
 
-import json
 import os
 import shutil
 import subprocess
 import sys
-import unittest
-from typing import Any, Dict, List, Sequence, Tuple
+from typing import Dict, List, Sequence
 
-from support import CLEAN, COMMAND, ERROR, HERE, Test
-
-from pycheck_all import program
+from sessions import ENDS, SessionTest, frame
+from support import CLEAN, COMMAND, ERROR, HERE
 
 # The diagnostic of the module with an error
 FOUND = ["E13"]
@@ -19,75 +16,22 @@ ORDINARY = "import json\n"
 REFUSED = ["N1"]
 
 
-def frame(message: Any) -> bytes:
-    """Returns a message with its header."""
-    body = message if isinstance(message, bytes) else json.dumps(message).encode()
-    return b"Content-Length: %d\r\n\r\n" % len(body) + body
-
-
-def messages_in(output: bytes) -> List[Dict[str, Any]]:
-    """Returns the messages that were written."""
-    found = []
-    while output:
-        head, _, rest = output.partition(b"\r\n\r\n")
-        length = int(head.partition(b": ")[2])
-        found.append(json.loads(rest[:length]))
-        output = rest[length:]
-    return found
-
-
-class Server(Test):
+class Server(SessionTest):
     """Sessions in a folder that is a project."""
 
     def setUp(self) -> None:
         super().setUp()
-        try:
-            self.server = program.chosen("", "pycheck_server", "PYCHECK_SERVER")
-        except program.NoProgram as fault:
-            raise unittest.SkipTest(str(fault)) from None
         self.write("core/prices.py", ERROR)
         self.write("web.py", ORDINARY)
         self.write("marked.py", "# pycheck: core\n" + ERROR)
 
-    def uri(self, name: str) -> str:
-        """Returns the URI of a file of the project."""
-        return "file://" + str(self.folder / name).replace("prices", "pri%63es")
-
-    def opened(self, name: str, language: str = "python") -> Dict[str, Any]:
-        """Returns the notification that a file of the project is open."""
-        path = self.folder / name
-        text = path.read_text(encoding="utf-8") if path.exists() else ERROR
-        document = {"uri": self.uri(name), "languageId": language, "version": 1, "text": text}
-        return {"jsonrpc": "2.0", "method": "textDocument/didOpen", "params": {"textDocument": document}}
-
-    def begun(self, root: str = "") -> Dict[str, Any]:
-        """Returns the request that begins a session, with a folder of the project."""
-        params = {"processId": None, "rootUri": f"file://{self.folder / root}", "capabilities": {}}
-        return {"jsonrpc": "2.0", "id": 1, "method": "initialize", "params": params}
-
-    def ran(self, given: bytes, words: Sequence[str] = ()) -> Tuple[int, bytes, str]:
-        """Returns the exit status and the outputs for an input."""
-        done = subprocess.run(
-            [sys.executable, str(COMMAND), "--server", *words], input=given, capture_output=True, timeout=120, cwd="/",
-            env={**os.environ, "PYCHECK_SERVER": self.server},
-        )
-        return done.returncode, done.stdout, done.stderr.decode()
-
-    def session(self, *messages: Any, words: Sequence[str] = (), root: str = "") -> List[Dict[str, Any]]:
-        """Returns the replies to some messages, in a session that begins and ends as it should."""
-        ends = [{"jsonrpc": "2.0", "id": 2, "method": "shutdown"}, {"jsonrpc": "2.0", "method": "exit"}]
-        parts = [self.begun(root), {"jsonrpc": "2.0", "method": "initialized", "params": {}}, *messages, *ends]
-        status, output, _ = self.ran(b"".join(map(frame, parts)), words)
-        self.assertEqual(status, 0)
-        return messages_in(output)
-
     def shown(self, *names: str, words: Sequence[str] = (), root: str = "") -> Dict[str, List[str]]:
-        """Returns the codes that are shown for files that are opened; none are for files that are left out."""
+        """Returns the codes that the server shows for files that are opened; none are for files that are left out."""
         found = {}
         for it in self.session(*map(self.opened, names), words=words, root=root):
             if it.get("method") == "textDocument/publishDiagnostics":
                 name = next(one for one in names if self.uri(one) == it["params"]["uri"])
-                found[name] = [one["code"] for one in it["params"]["diagnostics"]]
+                found[name] = [one["code"] for one in it["params"]["diagnostics"] if one["source"] == "pycheck"]
         return found
 
     def configure(self, lines: str, name: str = "pyproject.toml") -> None:
@@ -164,11 +108,10 @@ class Server(Test):
             self.assertEqual(codes, wanted)
 
     def test_other_messages_pass_as_they_came(self) -> None:
-        ends = [{"jsonrpc": "2.0", "id": 2, "method": "shutdown"}, {"jsonrpc": "2.0", "method": "exit"}]
         odd = [b"{", b"[]", b"[" * 100_000, b"\xff", {"method": 3}, {"method": "textDocument/didOpen", "params": [1]},
                {"jsonrpc": "2.0", "method": "textDocument/didOpen", "params": {"textDocument": {"uri": 1}}},
                {"jsonrpc": "2.0", "id": "é", "method": "none"}, b" " * (17 << 20)]
-        given = b"".join(map(frame, [self.begun(), *odd, self.opened("core/prices.py"), *ends]))
+        given = b"".join(map(frame, [self.begun(), *odd, self.opened("core/prices.py"), *ENDS]))
         for text in (given, given[:-40], b"Content-Length: 3\r\n\r\n", b"nothing", b"", b"Content-Length: x\r\n\r\n{}"):
             done = subprocess.run([self.server], input=text, capture_output=True, timeout=120)
             status, output, _ = self.ran(text)

@@ -1,31 +1,28 @@
-"""The language server for a project with a core. It starts `pycheck_server` and passes each message on to it. If the
-settings of its project leave a document out, it says that the document is not Python, so that the server checks the
-core
-alone.
+"""The language server of this command. It starts `pycheck_server`, passes each message of the editor on to it, and each
+of its answers on to the editor.
 
-The server writes to standard output itself. Messages that are not understood here are passed on unchanged."""
+If the settings of its project leave a document out, it says that the document is not Python, so that the server checks
+the core alone. To the answers it adds what this command tells beside the program: the advice for the case in hovers,
+the open bracket, and the refusals that are guessed after the first. Everything else is passed on unchanged, also
+messages that are not understood."""
 from __future__ import annotations
 
-import json
 import os
-import re
 import subprocess
 import sys
 import threading
 import urllib.parse
 from typing import Any, Callable, List, Optional, Sequence, Tuple
 
-from . import program, scope, settings, texts
+from . import program, scope, settings, texts, wire
+from .additions import FromServer
 from .files import Source
+from .session import Session, member
 
 SERVER, VARIABLE = "pycheck_server", "PYCHECK_SERVER"
 ONLY_MARKED = "--only-marked"
 # The language that a document has for the server if it is left out
 OTHER = "not-of-the-core"
-LONGEST_HEAD = 4096
-LONGEST_BODY = 16 << 20
-PART = 65536
-LENGTH = re.compile(rb"content-length:[ \t]*([0-9]{1,18})[ \t]*", re.IGNORECASE)
 OF_SIGNALS = 128
 
 
@@ -33,132 +30,61 @@ def serve(words: Sequence[str]) -> int:
     """Runs the server with these words until it ends, and returns its exit status."""
     marked = ONLY_MARKED in words
     path = program.chosen("", SERVER, VARIABLE)
-    process = subprocess.Popen([path, *(it for it in words if it != ONLY_MARKED)], stdin=subprocess.PIPE)
-    assert process.stdin is not None
-    relay = Relay(Documents(marked), process.stdin.fileno())
+    given = [it for it in words if it != ONLY_MARKED]
+    process = subprocess.Popen([path, *given], stdin=subprocess.PIPE, stdout=subprocess.PIPE)
+    assert process.stdin is not None and process.stdout is not None
+    session = Session()
+    to_server = wire.Relay(FromEditor(Documents(marked), session), process.stdin.fileno())
+    to_editor = wire.Relay(FromServer(session, log), 1)
+    has_ended, ends = os.pipe()
+    output = wire.OutputOf(process.stdout.fileno(), has_ended)
     # If the server ends first, do not wait for the client
-    threading.Thread(target=relay.run, args=(Input(0), process.stdin.close), daemon=True).start()
+    started(to_server, wire.Input(0), process.stdin.close)
+    answering = started(to_editor, output, process.stdout.close)
     status = process.wait()
+    os.close(ends)
+    answering.join()
     return status if status >= 0 else OF_SIGNALS - status
 
 
-class Input:
-    """The bytes of an open file, read in whole parts."""
-
-    def __init__(self, file: int) -> None:
-        self.file = file
-        self.held = b""
-
-    def more(self) -> bool:
-        """Reads more bytes. Returns whether there were any."""
-        part = os.read(self.file, PART)
-        self.held += part
-        return bool(part)
-
-    def take(self, length: int) -> bytes:
-        """Returns the next bytes of those read so far, at most `length`."""
-        taken, self.held = self.held[:length], self.held[length:]
-        return taken
-
-    def head(self) -> bytes:
-        """Returns the header of a message, with the empty line after it; empty if the input ends first or the header is
-        too long."""
-        at = self.held.find(b"\r\n\r\n")
-        while at < 0 and len(self.held) <= LONGEST_HEAD and self.more():
-            at = self.held.find(b"\r\n\r\n")
-        return self.take(at + 4) if at >= 0 else b""
-
-    def body(self, length: int) -> bytes:
-        """Returns `length` bytes, or fewer at the end of the input."""
-        parts = [self.take(length)]
-        left = length - len(parts[0])
-        while left and self.more():
-            parts.append(self.take(left))
-            left -= len(parts[-1])
-        return b"".join(parts)
+def started(relay: wire.Relay, source: wire.Input, close: Callable[[], None]) -> threading.Thread:
+    """Has a thread of its own pass the messages of one side on, and returns it."""
+    thread = threading.Thread(target=relay.run, args=(source, close), daemon=True)
+    thread.start()
+    return thread
 
 
-class Relay:
-    """Passes messages on to the server."""
+class FromEditor:
+    """Hears what the editor says, and hides the documents that are left out from the server."""
 
-    def __init__(self, documents: "Documents", to: int) -> None:
+    def __init__(self, documents: "Documents", session: Session) -> None:
         self.documents = documents
-        self.to = to
+        self.session = session
         self.begun = False
 
-    def run(self, source: Input, close: Callable[[], None]) -> None:
-        """Passes all messages on, until the input or the server ends."""
-        try:
-            while self.pass_message(source):
-                pass
-            while source.held or source.more():
-                self.write(source.take(PART))
-        except OSError:
-            pass
-        try:
-            close()
-        except OSError:
-            pass
-
-    def pass_message(self, source: Input) -> bool:
-        """Passes a message on. Returns whether another one may follow, beginning where this one ends."""
-        head = source.head()
-        length = length_of(head)
-        self.write(head if length is None or length > LONGEST_BODY else b"")
-        if length is None:
-            return False
-        if length <= LONGEST_BODY:
-            self.write(self.changed(head, source.body(length)))
-            return True
-        while length:
-            part = source.body(min(length, PART))
-            length -= len(part)
-            if not part:
-                return False
-            self.write(part)
-        return True
-
-    def changed(self, head: bytes, body: bytes) -> bytes:
-        """Returns the message to pass on in place of this one."""
-        try:
-            message = json.loads(body)
-        except (ValueError, RecursionError):
-            return head + body
+    def changes(self, message: Any) -> bool:
+        """Hears a message. Returns whether it opens a document that is left out, and was changed."""
         is_first, self.begun = not self.begun, True
-        method = message.get("method") if isinstance(message, dict) else None
+        method, params = member(message, "method"), member(message, "params")
         if method == "initialize":
-            told = self.documents.begin(message.get("params"))
+            told = self.documents.begin(params)
             if told and is_first:
                 # The server has nothing to write yet
                 tell(told)
-        if method != "textDocument/didOpen" or not self.documents.hide(message.get("params")):
-            return head + body
-        return framed(message)
+        hidden = method == "textDocument/didOpen" and self.documents.hide(params)
+        self.session.hear(message)
+        return hidden
 
-    def write(self, data: bytes) -> None:
-        """Writes all of some bytes to the server."""
-        while data:
-            data = data[os.write(self.to, data) :]
-
-
-def length_of(head: bytes) -> Optional[int]:
-    """Returns the length that a header states; None if it states none, or several."""
-    found = [it for it in map(LENGTH.fullmatch, head.split(b"\r\n")) if it]
-    return int(found[0][1]) if len(found) == 1 else None
-
-
-def framed(message: Any) -> bytes:
-    """Returns a message with its header."""
-    body = json.dumps(message).encode()
-    return b"Content-Length: %d\r\n\r\n" % len(body) + body
+    def misses(self) -> None:
+        """Hears that a message is passed on that was not read."""
+        self.begun = True
+        self.session.miss()
 
 
 def tell(text: str) -> None:
     """Makes the editor show an error, before the server answers anything."""
     params = {"type": 1, "message": f"pycheck: {text}"}
-    data = framed({"jsonrpc": "2.0", "method": "window/showMessage", "params": params})
-    while data:
-        data = data[os.write(1, data) :]
+    wire.write(1, wire.framed({"jsonrpc": "2.0", "method": "window/showMessage", "params": params}))
 
 
 def log(text: str) -> None:

@@ -135,3 +135,10 @@ def name_at(file: Checked, finding: Finding) -> Optional[str]:
     if unknown is None or said is None:
         return None
     return most_similar(said["name"], unknown.names(file.text, finding, said)) or None
+
+
+def forget() -> None:
+    """Keeps nothing any more of the texts that were read."""
+    of_module.cache_clear()
+    locals_of.cache_clear()
+    classes_of.cache_clear()

@@ -1,6 +1,7 @@
 """Finds the program to ask, and returns its answers."""
 from __future__ import annotations
 
+import errno
 import os
 import resource
 import select
@@ -12,7 +13,7 @@ import sysconfig
 import threading
 import time
 from pathlib import Path
-from typing import Dict, List, NamedTuple, Sequence, Set
+from typing import Dict, List, NamedTuple, Optional, Sequence, Set
 
 NAME = "pycheck"
 FINDER = Path(__file__).resolve().parent.parent / "ship"
@@ -136,10 +137,11 @@ def chosen(named: str, name: str = NAME, variable: str = "PYCHECK") -> str:
 
 
 class Program:
-    """The program, which many threads may ask at once."""
+    """The program, which many threads may ask at once. An answer has `most` bytes at most, if that is given."""
 
-    def __init__(self, path: str) -> None:
+    def __init__(self, path: str, most: Optional[int] = None) -> None:
         self.path = path
+        self.most = most
         self._running: Set[int] = set()
         self._lock = threading.Lock()
         self._stopped = False
@@ -148,7 +150,7 @@ class Program:
 
     def ask(self, until: float, *words: str) -> Answer:
         """Runs the program with these words, until a time of the clock `time.monotonic`. Raises TooLong if it has to be
-        ended then, and OSError if it could not be run."""
+        ended then, and OSError if it could not be run or its answer is too long."""
         reads, writes = zip(os.pipe(), os.pipe())
         try:
             process = self._start(words, writes)
@@ -161,7 +163,7 @@ class Program:
                 os.close(write)
         output, error = b"", b""
         try:
-            output, error = read_all(reads, until)
+            output, error = read_all(reads, until, self.most)
             self._await_end(process, until)
         except BaseException:
             os.kill(process, signal.SIGKILL)
@@ -222,9 +224,10 @@ def bound_memory(process: int) -> None:
         pass
 
 
-def read_all(files: Sequence[int], until: float) -> List[bytes]:
+def read_all(files: Sequence[int], until: float, most: Optional[int] = None) -> List[bytes]:
     """Reads some open files side by side to their ends, and closes them. Returns their bytes; raises TooLong if the
-    ends do not come in time."""
+    ends do not come in time, and OSError if they have more bytes together than `most`."""
+    read = 0
     parts: Dict[int, List[bytes]] = {file: [] for file in files}
     poll = select.poll()
     for file in files:
@@ -237,6 +240,9 @@ def read_all(files: Sequence[int], until: float) -> List[bytes]:
             for file, _ in poll.poll(1000 * max(0.0, until - time.monotonic())):
                 part = os.read(file, 65536)
                 parts[file].append(part)
+                read += len(part)
+                if most is not None and read > most:
+                    raise OSError(errno.EFBIG, "its answer is too long")
                 if not part:
                     poll.unregister(file)
                     left.discard(file)

@@ -159,3 +159,9 @@ def is_false(node: ast.stmt) -> bool:
 def is_endless(node: ast.stmt) -> bool:
     """Whether a statement is a loop whose condition is True."""
     return isinstance(node, ast.While) and isinstance(node.test, ast.Constant) and node.test.value is True
+
+
+def forget() -> None:
+    """Keeps nothing any more of the texts that were read."""
+    renewing.cache_clear()
+    arguments.cache_clear()

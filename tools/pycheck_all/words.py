@@ -14,6 +14,8 @@ UNNAMED = "<stdin>"
 FORMS = ("concise", "full", "json", "github", "gitlab", "sarif", "junit")
 USAGE = 3
 MOST_SECONDS = 86_400
+# How many seconds a file may take
+SECONDS = 60.0
 NUMBER = re.compile(r"[0-9]{1,9}(?:\.[0-9]{1,9})?")
 EPILOG = """exit status: 0 no error, 1 errors (with --strict also dynamic places), 2 a refused file, 3 usage, memory or
 input/output error; the worst of all files"""
@@ -89,10 +91,10 @@ def parser_of(name: str) -> Parser:
     add("--color", default="auto", choices=("auto", "always", "never"), help="colours in the form full")
     add(
         "--timeout",
-        default=60.0,
+        default=SECONDS,
         type=seconds_of,
         metavar="SECONDS",
-        help="the time that a file may take; then it counts as not checked (default: 60)",
+        help=f"the time that a file may take; then it counts as not checked (default: {SECONDS:g})",
     )
     add("--strict", action="store_true", help="fail on dynamic places too")
     add("--statistics", action="store_true", help="say how often each code stands")
@@ -159,7 +161,8 @@ def add_choices(parser: Parser) -> None:
     add(
         "--server",
         action="store_true",
-        help="first, and alone or with --only-marked: be a language server that checks the core of a project alone",
+        help="first, and alone or with --only-marked: be a language server with the advice of this command, which "
+        "checks the core of a project alone",
     )
     add("--watch", action="store_true", help="check again whenever a file changes, until it is interrupted")
 

@@ -67,18 +67,30 @@ pub fn mending(code: Code) -> &'static str
     ensures { result.now ≡ mending_of code }
 {
     match code {
-        Code::A1 => "Annotate the source of the value, or test it with `isinstance`.",
-        Code::A2 => "Annotate the parameters that the value comes from.",
-        Code::A3 => "Annotate the parameter that the value comes from.",
-        Code::A4 => "Annotate the parameter with its class, or test it with `isinstance`.",
-        Code::A5 => "Annotate the parameter that the value comes from.",
+        Code::A1 => {
+            "Annotate the source of the value, or test it with `isinstance`; if the value is in error itself, mend that."
+        }
+        Code::A2 => {
+            "Annotate the parameters that the value comes from; if the value is in error itself, mend that."
+        }
+        Code::A3 => {
+            "Annotate the parameter that the value comes from; if the value is in error itself, mend that."
+        }
+        Code::A4 => {
+            "Annotate the parameter with its class, or test it with `isinstance`; if the value is in error itself, mend that."
+        }
+        Code::A5 => {
+            "Annotate the parameter that the value comes from; if the value is in error itself, mend that."
+        }
         Code::A6 => {
-            "Annotate the parameter, and pass an instance with a method instead of a value to be called."
+            "Pass an instance with a method in place of a value to be called, and annotate it; if the value is in error itself, mend that."
         }
         Code::A7 => "Name the list in the type of the parameter.",
         Code::A8 => "Annotate the ancestor's parameter with a type that all descendants accept.",
         Code::E01 => "Give each one a name of its own.",
-        Code::E02 => "Spell the name as it is bound, or write the missing function.",
+        Code::E02 => {
+            "Spell the name as it is bound, or write the missing function: most built-ins of Python are left out."
+        }
         Code::E03 => "Define things before they are used, and call functions in `main`.",
         Code::E04 => "Assign to it on every path, or once beforehand.",
         Code::E05 => "Write `return` to leave a function.",
@@ -86,24 +98,32 @@ pub fn mending(code: Code) -> &'static str
         Code::E07 => "Define the base first; a built-in type cannot be a base.",
         Code::E08 => "Put the fields without defaults first.",
         Code::E09 => {
-            "Write a type: say what a list or dict contains, and write `T | None` for an optional value."
+            "Write a class of the module or a type of the profile, with what a list or dict contains; an optional value is `T | None`."
         }
         Code::E10 => "Put the union inside, or keep only the wider member.",
         Code::E11 => "Keep the parameters of the ancestor's method, or choose another name.",
-        Code::E12 => "Test for the values that do not fit, or change the type of the place.",
-        Code::E13 => "Turn one value into the kind of the other, for example with `str`.",
+        Code::E12 => {
+            "Give a value of the expected type, or change the type of the place; of a union, test first for the members that do not fit."
+        }
+        Code::E13 => {
+            "Turn one value into the kind of the other, for example with `str`; if one may be None, test a local that has it first."
+        }
         Code::E14 => "Give every parameter one argument, or give the parameter a default.",
         Code::E15 => {
-            "Use an attribute that exists, and test for None first if the value may be None."
+            "Use an attribute that exists; if the value may be None, give it to a local and test that first."
         }
         Code::E16 => {
-            "Use an index of the right kind, and test for None first if the value may be None."
+            "Use an index of the right kind; if the value may be None, test a local that has it first."
         }
         Code::E17 => "Make a new tuple or string, or use a list.",
         Code::E18 => "Loop over a list, or use `range` to count.",
         Code::E19 => "Test for None first, and use `in` on a list, a dict, a tuple or a string.",
-        Code::E20 => "Call it, or pass an instance with a method.",
-        Code::E21 => "Return on every path, or allow None in the return type.",
+        Code::E20 => {
+            "Call a function, or make an instance of a class; the name of a type is no value."
+        }
+        Code::E21 => {
+            "Return a value on every path, or allow None in the return type; neither `assert` nor a loop ends a path."
+        }
         Code::E22 => "Split the dict in two, and annotate what receives an empty dict.",
         Code::E23 => "Call the method, or assign to a field.",
         Code::E24 => "Put the annotation on the first binding.",

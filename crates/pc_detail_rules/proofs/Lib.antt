@@ -1,8 +1,10 @@
 pub mod CallMisfits
 pub mod Clashes
+pub mod Explained
 pub mod FlowDetails
 pub mod KnownAlike
 pub mod Lacking
 pub mod Misfits
 pub mod NameMisfits
 pub mod OverrideFaults
+pub mod Spelled

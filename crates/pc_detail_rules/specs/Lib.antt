@@ -11,4 +11,5 @@ pub mod Operations
 pub mod Overrides
 pub mod Sinks
 pub mod Statements
+pub mod Texts
 pub mod ToldTypes

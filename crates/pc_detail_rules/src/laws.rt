@@ -4,10 +4,13 @@ ghost use Rattle.pc_detail_rules.specs.Annotations.{ClashesAreExact};
 ghost use Rattle.pc_detail_rules.specs.CallLaws.{MethodMisfitsAreExact, NameMisfitsAreExact, ValueMisfitsAreExact};
 ghost use Rattle.pc_detail_rules.specs.Calls.{MisfitsAreExact};
 ghost use Rattle.pc_detail_rules.specs.Laws.{DynamicDetailsAreFlows, DynamicFlowsAreNotStatic};
+ghost use Rattle.pc_detail_rules.specs.Laws.{EveryFindingIsExplained, WrongCallsHaveMisfits};
 ghost use Rattle.pc_detail_rules.specs.Laws.{WrongFlowsAreNotAssignable};
 ghost use Rattle.pc_detail_rules.specs.Noted.{DetailsAreReadOffNotes, NotesTellWhatIsKnown};
 ghost use Rattle.pc_detail_rules.specs.Operations.{LackingIsExact};
 ghost use Rattle.pc_detail_rules.specs.Overrides.{OverrideFaultsAreExact, OverridesAreExplained};
+ghost use Rattle.pc_detail_rules.specs.Texts.{EveryFindingOfTextsIsExplained, TextsHaveOwnPlaces};
+ghost use Rattle.pc_detail_rules.specs.Texts.{WrongCallsOfTextsHaveMisfits};
 
 /// A call suits a signature exactly if its arguments have no misfit.
 pub fn misfits_are_exact()
@@ -70,4 +73,33 @@ pub fn dynamic_details_are_flows()
 /// The first type of a detail of E12 is not assignable to the second.
 pub fn wrong_details_are_wrong()
     ensures { WrongFlowsAreNotAssignable }
+{}
+
+/// Where E14 is found there is a misfit, if at each place there is at most one expression.
+pub fn wrong_calls_have_misfits()
+    ensures { WrongCallsHaveMisfits }
+{}
+
+/// Each finding of a module has a detail. The rules of A1, E12, E14, E20 and E23 ask for types by their places, those
+/// of E11 and A8 for a function by the place of its name, and those of E09 and E10 write types out: of these codes it
+/// holds where no two expressions are at one place, no two functions are named at one, and no type is too large to be
+/// written out.
+pub fn every_finding_is_explained()
+    ensures { EveryFindingIsExplained }
+{}
+
+/// In a module that a text spells no two expressions are at one place, and no two functions are named at one.
+pub fn texts_have_own_places()
+    ensures { TextsHaveOwnPlaces }
+{}
+
+/// Each finding of a module that a text spells has a detail; of `E09` and `E10`, if no type is too large to be written
+/// out.
+pub fn every_finding_of_texts_is_explained()
+    ensures { EveryFindingOfTextsIsExplained }
+{}
+
+/// Where E14 is found in a module that a text spells there is a misfit.
+pub fn wrong_calls_of_texts_have_misfits()
+    ensures { WrongCallsOfTextsHaveMisfits }
 {}

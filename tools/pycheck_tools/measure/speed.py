@@ -15,8 +15,9 @@ FOLDER. The modules are the same at each call. Every one is a module of the prof
 answers otherwise ends the tool with status 1.
 
 With `--server` an edit in the language server is timed too: a module of 1,000 lines is opened and then changed whole,
-once and a hundred times more. What one of these takes is printed, by the least of N runs each; a server that does not
-publish the diagnostics of each text ends the tool with status 1.
+once and a hundred times more. So is a hover: it is asked for once and a hundred times more. What one of these takes is
+printed, by the least of N runs each; a server that does not publish the diagnostics of each text, or shows nothing
+under the pointer, ends the tool with status 1.
 
 The memory of a process is told by the system as no less than this tool's own at the time when it started the
 process, which is printed.
@@ -45,9 +46,12 @@ from ..words import Words
 
 # The result of a try
 Tried = TypeVar("Tried")
+# A message of a session: its method and its parameters
+Said = Tuple[str, Any]
 HEADER = "from __future__ import annotations\nfrom dataclasses import dataclass\n"
 LENGTHS = (225_000, 450_000, 900_000)
-EDITED_LINES, EDITS = 1_000, 100  # the lines of the module that is edited, and how many edits are timed
+EDITED_LINES, EDITS = 1_000, 100  # the lines of the module that is edited, and how many edits and hovers are timed
+URI = "file:///module.py"
 THINGS = ("order invoice customer account payment parcel ticket sensor reading route station booking member lesson"
           " recipe shipment").split()
 FIELDS = "count price weight level amount width height score offset limit total rank".split()
@@ -265,52 +269,68 @@ def show(text: str, program: str, python: str, runs: int, file: Path) -> None:
     print(f"| {' | '.join(shown)} |", flush=True)
 
 
-def session(text: str, changes: int) -> bytes:
-    """Returns the bytes of a session that opens a module and changes it so often, each time in one line."""
-    document = {"uri": "file:///module.py", "languageId": "python", "version": 0, "text": text}
-    said: List[Tuple[str, Any]] = [("initialize", {"capabilities": {}}), ("initialized", {})]
-    said.append(("textDocument/didOpen", {"textDocument": document}))
-    for version in range(1, changes + 1):
-        changed = {"textDocument": {"uri": document["uri"], "version": version},
-                   "contentChanges": [{"text": text + f"# {version}\n"}]}
-        said.append(("textDocument/didChange", changed))
-    said += [("shutdown", None), ("exit", None)]
+def changes_of(text: str, number: int) -> List[Said]:
+    """Returns so many changes of the open module, each in one line."""
+    return [("textDocument/didChange", {"textDocument": {"uri": URI, "version": version},
+                                        "contentChanges": [{"text": text + f"# {version}\n"}]}) for version in range(1, number + 1)]
+
+
+def hovers_of(text: str, number: int) -> List[Said]:
+    """Returns so many requests for what is shown under the pointer in the open module, at names that begin lines."""
+    lines = text.split("\n")
+    places = [(line, 8) for line, said in enumerate(lines) if re.match(r" {8}\w+(?: =|\.)", said)]
+    chosen = [places[at * len(places) // number] for at in range(number)]
+    return [("textDocument/hover", {"textDocument": {"uri": URI}, "position": {"line": line, "character": character}})
+            for line, character in chosen]
+
+
+def session(text: str, more: List[Said]) -> bytes:
+    """Returns the bytes of a session that opens a module and says more of it."""
+    document = {"uri": URI, "languageId": "python", "version": 0, "text": text}
+    said: List[Said] = [("initialize", {"capabilities": {}}), ("initialized", {}), ("textDocument/didOpen", {"textDocument": document}),
+                        *more, ("shutdown", None), ("exit", None)]
     given = b""
-    for method, params in said:
-        number = {"id": method} if method in ("initialize", "shutdown") else {}
+    for at, (method, params) in enumerate(said):
+        number = {"id": at} if method in ("initialize", "shutdown", "textDocument/hover") else {}
         body = json.dumps({"jsonrpc": "2.0", "method": method, "params": params, **number}).encode()
         given += b"Content-Length: %d\r\n\r\n" % len(body) + body
     return given
 
 
-def served(server: str, given: bytes, changes: int) -> float:
-    """Returns the seconds of processor time that the server takes for a session, which has to end as it should."""
+def served(server: str, given: bytes, texts: int, shown: int) -> float:
+    """Returns the seconds of processor time that the server takes for a session, which has to end as it should, with the
+    diagnostics of so many texts and so many replies that show something."""
     with tempfile.TemporaryFile() as input_file, tempfile.TemporaryFile() as output_file:
         input_file.write(given)
         input_file.seek(0)
         with subprocess.Popen([server], stdin=input_file, stdout=output_file) as process:
             used = ended(process)
         output_file.seek(0)
-        told = output_file.read().count(b"textDocument/publishDiagnostics")
+        output = output_file.read()
+    told = output.count(b"textDocument/publishDiagnostics"), output.count(b'"contents"')
     status = process.returncode
-    if status != 0 or told != changes + 1:
-        sys.exit(f"tools/measure speed: {server} ended with status {status} after the diagnostics of {told} texts")
+    if status != 0 or told != (texts, shown):
+        sys.exit(f"tools/measure speed: {server} ended with status {status} after the diagnostics of {told[0]} texts and"
+                 f" {told[1]} texts of hovers")
     return float(used.ru_utime + used.ru_stime)
 
 
-def show_edit(server: str, runs: int) -> None:
-    """Prints the cost of an edit in the language server."""
+def show_session(server: str, runs: int) -> None:
+    """Prints the cost of an edit in the language server, and of a hover."""
     length = 0
     while module(length, EVERY).count("\n") < EDITED_LINES:
         length += 500
     text = module(length, EVERY)
-    seconds: Dict[int, float] = {}
-    for changes in (1, EDITS + 1):
-        given = session(text, changes)
-        seconds[changes] = min(served(server, given, changes) for _ in range(runs))
-    each = (seconds[EDITS + 1] - seconds[1]) / EDITS
-    print(f"An edit of a module of {text.count(chr(10)):,} lines in the language server: {1000 * each:.1f}"
-          " milliseconds of processor time")
+    lines = text.count("\n")
+
+    def each(made: Callable[[str, int], List[Said]], shown: bool) -> float:
+        """Returns the milliseconds of one message, by the least of several sessions with one and with many of them."""
+        few, many = (min(served(server, session(text, made(text, number)), 1 if shown else number + 1, number if shown else 0)
+                         for _ in range(runs)) for number in (1, EDITS + 1))
+        return 1000 * (many - few) / EDITS
+
+    print(f"An edit of a module of {lines:,} lines in the language server: {each(changes_of, False):.1f} milliseconds of processor time")
+    print(f"A hover in a module of {lines:,} lines in the language server: {each(hovers_of, True):.1f} milliseconds of processor time")
 
 
 class Uncounted(Exception):
@@ -419,7 +439,7 @@ def show_all(asked: argparse.Namespace, folder: Path) -> None:
         text = module(length, parts)
         show(text, asked.program, asked.python or sys.executable, asked.runs, folder / f"speed_{len(text)}.py")
     if asked.server:
-        show_edit(asked.server, asked.runs)
+        show_session(asked.server, asked.runs)
 
 
 def main(words: List[str]) -> int:

@@ -1,0 +1,9 @@
+pub mod Between
+pub mod Counted
+pub mod Expressions
+pub mod Feeds
+pub mod Layouts
+pub mod Lines
+pub mod Modules
+pub mod Statements
+pub mod Texts
