@@ -20,8 +20,11 @@ SECONDS = 3.0
 PROCESSORS = 4
 # A machine that pauses for a moment makes one run long: the least of this many counts
 RUNS = 5
-# Work for one processor that takes a part of a second
+# Work for one processor, and the seconds that it takes on the machine of the bound if all its processors do it at once
 FILLED = "sum(range(5_000_000))"
+FILLED_SECONDS = 0.25
+# A machine that is slower has a bound as many times as high, up to this
+SLOWEST = 2.0
 
 
 def before_others() -> List[str]:
@@ -38,14 +41,16 @@ def used() -> float:
     return now.children_user + now.children_system
 
 
-def stretch(first: List[str]) -> float:
-    """Returns how many times as long as its processors work the machine takes now for work that fills them: 1.0 if it
-    has them to itself, and more if another machine on the same hardware takes them away."""
+def stretch(first: List[str]) -> Tuple[float, float]:
+    """Returns how many times as long the machine takes now for work that fills its processors: as many times as long as
+    they work, 1.0 if it has them to itself, and more if another machine on the same hardware takes them away; and as
+    many times as long as they work on the machine of the bound, from 1.0 to `SLOWEST`."""
     before, began = used(), time.monotonic()
     started = [subprocess.Popen([*first, sys.executable, "-c", FILLED]) for _ in range(PROCESSORS)]
     for it in started:
         it.wait()
-    return max(1.0, (time.monotonic() - began) * PROCESSORS / (used() - before))
+    passed, worked = time.monotonic() - began, used() - before
+    return max(1.0, passed * PROCESSORS / worked), min(SLOWEST, max(1.0, worked / (PROCESSORS * FILLED_SECONDS)))
 
 
 class Speed(Test):
@@ -63,15 +68,17 @@ class Speed(Test):
         words = [*first, sys.executable, str(COMMAND), "."]
         is_timed = (first or os.getloadavg()[0] < 1) and (os.cpu_count() or 1) >= PROCESSORS
         runs: List[Tuple[float, float]] = []
-        while len(runs) < RUNS and not any(passed < SECONDS for _, passed in runs):
+        most = SECONDS * PROCESSORS / 2
+        while len(runs) < RUNS and not any(worked < most and passed < SECONDS for worked, passed in runs):
             before, began = used(), time.monotonic()
             done = subprocess.run(words, cwd=self.folder, capture_output=True, env=variables({}), timeout=300)
             passed, worked = time.monotonic() - began, used() - before
             self.assertEqual(done.returncode, 2)
             self.assertTrue(done.stdout.decode().splitlines()[-1].startswith("1000 files: "))
-            runs.append((worked, passed / stretch(first)))
+            others, slower = stretch(first)
+            runs.append((worked / slower, passed / others / slower))
         # A machine with other work, or with fewer processors, takes longer; the time of the processors shows as much
-        self.assertLess(min(worked for worked, _ in runs), SECONDS * PROCESSORS / 2, str(runs))
+        self.assertLess(min(worked for worked, _ in runs), most, str(runs))
         if is_timed:
             self.assertLess(min(passed for _, passed in runs), SECONDS, str(runs))
 
