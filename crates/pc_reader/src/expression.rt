@@ -1,6 +1,7 @@
 //! Expressions, by descent: operators by precedence, and recursion that gets deeper only at brackets. Each function
 //! takes the tokens that it reads, and fails as `Reader::misfit` does at the first that does not fit, or if an
-//! allocation fails.
+//! allocation fails. An operand is dropped by name before a failure is passed on: proofs take long where one goes out of
+//! scope.
 ghost use Rattle.std.specs.Prelude.{◌≡◌, ◌≤◌, ◌++◌, ◌∷◌, [], MatchResult, IfOk, true};
 ghost use Rattle.pc_source.specs.declared.fault.Fault.TheVariants as fault;
 ghost use Rattle.pc_token.specs.declared.token.TokenKind.TheVariants as kind;
@@ -42,7 +43,13 @@ impl<X: AsStr + Drop, I: Iterator<Item = Result<Token<X>, Fault>> + Drop> Reader
             return Err(self.misfit());
         }
         let operand = value(alloc, token)?;
-        self.skip()?;
+        match self.skip() {
+            Ok(()) => {}
+            Err(fault) => {
+                drop(operand);
+                return Err(fault);
+            }
+        }
         Ok(operand)
     }
 }
@@ -98,8 +105,21 @@ impl<X: AsStr + Drop, I: Iterator<Item = Result<Token<X>, Fault>> + Drop> Reader
     {
         let mut left = self.prefixed(alloc, level)?;
         while let Some(link) = self.link(left.level, level) {
-            if let Some(infix) = self.infix(link)? {
-                let right = self.operators(alloc, infix.right())?;
+            let infix = match self.infix(link) {
+                Ok(infix) => infix,
+                Err(fault) => {
+                    drop(left);
+                    return Err(fault);
+                }
+            };
+            if let Some(infix) = infix {
+                let right = match self.operators(alloc, infix.right()) {
+                    Ok(right) => right,
+                    Err(fault) => {
+                        drop(left);
+                        return Err(fault);
+                    }
+                };
                 left = join(alloc, infix, left, right)?;
             } else {
                 left = self.none_behind(alloc, left)?;
@@ -160,13 +180,31 @@ impl<X: AsStr + Drop, I: Iterator<Item = Result<Token<X>, Fault>> + Drop> Reader
         let mut operand = self.atom(alloc)?;
         loop {
             if self.sees(TokenKind::Operator(Operator::Dot)) {
-                self.skip()?;
+                match self.skip() {
+                    Ok(()) => {}
+                    Err(fault) => {
+                        drop(operand);
+                        return Err(fault);
+                    }
+                }
                 operand = self.member(alloc, operand)?;
             } else if self.sees(TokenKind::Operator(Operator::LeftBracket)) {
-                self.skip()?;
+                match self.skip() {
+                    Ok(()) => {}
+                    Err(fault) => {
+                        drop(operand);
+                        return Err(fault);
+                    }
+                }
                 operand = self.index(alloc, operand)?;
             } else if self.sees(TokenKind::Operator(Operator::LeftParenthesis)) {
-                self.skip()?;
+                match self.skip() {
+                    Ok(()) => {}
+                    Err(fault) => {
+                        drop(operand);
+                        return Err(fault);
+                    }
+                }
                 operand = self.call(alloc, operand)?;
             } else {
                 return Ok(operand);
@@ -182,8 +220,21 @@ impl<X: AsStr + Drop, I: Iterator<Item = Result<Token<X>, Fault>> + Drop> Reader
         ensures { ReadsOn X.AsStr I.Iterator
             (λ t p s. operand_due (indexing p.tree (p.tokens ++ (t ∷ [])) s)) 7 self.old self.new operand result }
     {
-        let key = self.operators(alloc, 0)?;
-        let close = self.expect_place(TokenKind::Operator(Operator::RightBracket))?;
+        let key = match self.operators(alloc, 0) {
+            Ok(key) => key,
+            Err(fault) => {
+                drop(operand);
+                return Err(fault);
+            }
+        };
+        let close = match self.expect_place(TokenKind::Operator(Operator::RightBracket)) {
+            Ok(close) => close,
+            Err(fault) => {
+                drop(key);
+                drop(operand);
+                return Err(fault);
+            }
+        };
         indexed(alloc, operand, key, close.end)
     }
 
@@ -228,10 +279,22 @@ impl<X: AsStr + Drop, I: Iterator<Item = Result<Token<X>, Fault>> + Drop> Reader
         }
         let first = self.operators(alloc, 0)?;
         if self.sees(TokenKind::Operator(Operator::RightParenthesis)) {
-            let close = self.take_place()?;
+            let close = match self.take_place() {
+                Ok(close) => close,
+                Err(fault) => {
+                    drop(first);
+                    return Err(fault);
+                }
+            };
             return Ok(grouped(first, open.start, close.end));
         }
-        self.expect_place(TokenKind::Operator(Operator::Comma))?;
+        match self.expect_place(TokenKind::Operator(Operator::Comma)) {
+            Ok(_) => {}
+            Err(fault) => {
+                drop(first);
+                return Err(fault);
+            }
+        }
         let mut some = Items::new(alloc);
         some.push(first)?;
         let Listed { items, end } = self.items(alloc, some, Operator::RightParenthesis)?;
@@ -282,8 +345,20 @@ impl<X: AsStr + Drop, I: Iterator<Item = Result<Token<X>, Fault>> + Drop> Reader
                 return Ok(dict(alloc, entries, open.start, close.end));
             }
             let key = self.operators(alloc, 0)?;
-            self.expect_place(TokenKind::Operator(Operator::Colon))?;
-            let value = self.operators(alloc, 0)?;
+            match self.expect_place(TokenKind::Operator(Operator::Colon)) {
+                Ok(_) => {}
+                Err(fault) => {
+                    drop(key);
+                    return Err(fault);
+                }
+            }
+            let value = match self.operators(alloc, 0) {
+                Ok(value) => value,
+                Err(fault) => {
+                    drop(key);
+                    return Err(fault);
+                }
+            };
             entries.push(key, value)?;
             if !self.sees(TokenKind::Operator(Operator::Comma)) {
                 let close = self.expect_place(TokenKind::Operator(Operator::RightBrace))?;
@@ -305,7 +380,13 @@ impl<X: AsStr + Drop, I: Iterator<Item = Result<Token<X>, Fault>> + Drop> Reader
             items,
             keywords,
             end,
-        } = self.arguments(alloc)?;
+        } = match self.arguments(alloc) {
+            Ok(arguments) => arguments,
+            Err(fault) => {
+                drop(callee);
+                return Err(fault);
+            }
+        };
         called(alloc, callee, items, keywords, end)
     }
 

@@ -1,4 +1,5 @@
-//! Operators between operands, signs before them, and attributes after them, token by token.
+//! Operators between operands, signs before them, and attributes after them, token by token. As in `expression.rt`, an
+//! operand is dropped by name before a failure is passed on.
 ghost use Rattle.std.specs.Prelude.{◌≡◌, List, [], ◌∷◌, ◌≤◌, MatchResult, MatchOption, IfOk, false};
 ghost use Rattle.pc_source.specs.declared.fault.Fault.TheVariants as fault;
 ghost use Rattle.pc_token.specs.Lexeme.{Lexeme};
@@ -92,7 +93,13 @@ impl<X: AsStr + Drop, I: Iterator<Item = Result<Token<X>, Fault>> + Drop> Reader
         ensures { ReadsOn X.AsStr I.Iterator
             (λ t p s. identified p (t ∷ []) s) 3 self.old self.new operand result }
     {
-        let NoneTest { negated, end } = self.none()?;
+        let NoneTest { negated, end } = match self.none() {
+            Ok(test) => test,
+            Err(fault) => {
+                drop(operand);
+                return Err(fault);
+            }
+        };
         none_test(alloc, operand, negated, end)
     }
 
@@ -121,7 +128,13 @@ impl<X: AsStr + Drop, I: Iterator<Item = Result<Token<X>, Fault>> + Drop> Reader
         ensures { ReadsOn X.AsStr I.Iterator
             (λ t p s. dotted p (t ∷ []) s) 7 self.old self.new operand result }
     {
-        let name = self.name(alloc)?;
+        let name = match self.name(alloc) {
+            Ok(name) => name,
+            Err(fault) => {
+                drop(operand);
+                return Err(fault);
+            }
+        };
         let end = name.place.end;
         member(alloc, operand, name, end)
     }

@@ -191,12 +191,11 @@ arguments-loop-self-preserved g t c = let k = c.in_ok-skip-2.ensures.takes in le
           (kind_seen (kind.Operator sign.Comma) (sym c.sees-in-loop-self-2.ensures ∙ c.if-not-sees.false) k.here);
     }
 
-pub call-returns-in_err-items : goal.call-returns-in_err-items
-call-returns-in_err-items g t c = let p = err_from_is_err_and c.from_residual.result c.from_residual.ensures.1 in
-    rw (p.1, p.2) (blame (λ o w. λ k q s kq. w q.tree (q.tokens ++ (k ∷ [])) s) c.in_err-items.ensures)
+pub call-returns-in-Err : goal.call-returns-in-Err
+call-returns-in-Err g t c = blame (λ o w. λ k q s kq. w q.tree (q.tokens ++ (k ∷ [])) s) c.in-Err.ensures
 
 pub call-returns : goal.call-returns
-call-returns g t c = let n = c.in_ok-items.ensures in on_result c.called.result _ _ _ (λ o j. record {
+call-returns g t c = let n = c.in-Ok.ensures in on_result c.called.result _ _ _ (λ o j. record {
   level_is = j.0;
   ready = n.ready;
   later = n.later;
@@ -246,52 +245,47 @@ dict-returns-in_err-key-clause-reads g t c = let p = err_from_is_err_and c.from_
     v.leads s r o (key_begins g.X.AsStr.text g.I.Iterator.next_gives c.loop-self.self v.entries v.tokens s
     (sym c.sees.ensures ∙ c.if-sees.false) o (w (keying v.entries v.tokens s) refl))) c.in_err-key.ensures.reads)
 
-pub dict-returns-in_err-expect_place-clause-reads : goal.dict-returns-in_err-expect_place-clause-reads
-dict-returns-in_err-expect_place-clause-reads g t c = let p = err_from_is_err_and
-    c.from_residual-in_err-expect_place.result
-    c.from_residual-in_err-expect_place.ensures.1 in
-    rw (p.1, p.2) (blame (λ o w. λ s r. let v = c.loop-self.invariant.entries in let q = c.in_ok-key.ensures.reads in
+pub dict-returns-in-Err-clause-reads : goal.dict-returns-in-Err-clause-reads
+dict-returns-in-Err-clause-reads g t c = blame (λ o w. λ s r. let v = c.loop-self.invariant.entries in let q = c.in_ok-key.ensures.reads in
     key_read g.X.AsStr g.I.Iterator v s r
     (sym c.sees.ensures ∙ c.if-sees.false) q o (w (have c.in_ok-key.key.level q.part (keying v.entries v.tokens s))
     (needs_end g.X.AsStr.text (kind.Operator sign.Colon) c.in_ok-key.key.level q.part (keying v.entries v.tokens s)
     c.operators.new.self refl c.in_ok-key.ensures.over c.in_ok-key.ensures.undotted
     (λ u e n. key_unended v.entries v.tokens s q.part (lexeme g.X.AsStr.text u) u.kind n))))
-    c.in_err-expect_place.ensures)
+    c.in-Err.ensures
 
-pub dict-returns-in_err-value-clause-reads : goal.dict-returns-in_err-value-clause-reads
-dict-returns-in_err-value-clause-reads g t c = let p = err_from_is_err_and c.from_residual-in_err-value.result
-    c.from_residual-in_err-value.ensures.1 in
-    rw (p.1, p.2) (blame (λ o w. λ s r. let v = c.loop-self.invariant.entries in let q = c.in_ok-key.ensures.reads in
+pub dict-returns-in-Err-operators-clause-reads : goal.dict-returns-in-Err-operators-clause-reads
+dict-returns-in-Err-operators-clause-reads g t c = blame (λ o w. λ s r. let v = c.loop-self.invariant.entries in let q = c.in_ok-key.ensures.reads in
     value_due g.X.AsStr g.I.Iterator v s r
-    (sym c.sees.ensures ∙ c.if-sees.false) q c.in_ok-expect_place.ensures.takes c.in_ok-expect_place.ensures.is o
+    (sym c.sees.ensures ∙ c.if-sees.false) q c.in-Ok.ensures.takes c.in-Ok.ensures.is o
     (w
     (valuing v.entries q.part.tree
-    (v.tokens ++ (q.part.tokens ++ ((lexeme g.X.AsStr.text c.in_ok-expect_place.ensures.token) ∷ []))) s) refl))
-    c.in_err-value.ensures.reads)
+    (v.tokens ++ (q.part.tokens ++ ((lexeme g.X.AsStr.text c.in-Ok.ensures.token) ∷ []))) s) refl))
+    c.in-Err-operators.ensures.reads
 
 pub dict-returns-in_err-close-2-clause-reads : goal.dict-returns-in_err-close-2-clause-reads
 dict-returns-in_err-close-2-clause-reads g t c = let p = err_from_is_err_and c.from_residual-in_err-close-2.result
     c.from_residual-in_err-close-2.ensures.1 in
     rw (p.1, p.2) (blame (λ o w. λ s r. let v = c.loop-self.invariant.entries in let q = c.in_ok-key.ensures.reads in
-    let y = c.in_ok-value.ensures.reads in value_read g.X.AsStr g.I.Iterator v s r
-    (sym c.sees.ensures ∙ c.if-sees.false) q c.in_ok-expect_place.ensures.takes
-    c.in_ok-expect_place.ensures.is y o
-    (w (have c.in_ok-value.value.level y.part (valuing v.entries q.part.tree
-    (v.tokens ++ (q.part.tokens ++ ((lexeme g.X.AsStr.text c.in_ok-expect_place.ensures.token) ∷ []))) s))
-    (needs_end g.X.AsStr.text (kind.Operator sign.RightBrace) c.in_ok-value.value.level y.part
+    let y = c.in-Ok-operators.ensures.reads in value_read g.X.AsStr g.I.Iterator v s r
+    (sym c.sees.ensures ∙ c.if-sees.false) q c.in-Ok.ensures.takes
+    c.in-Ok.ensures.is y o
+    (w (have c.in-Ok-operators.value.level y.part (valuing v.entries q.part.tree
+    (v.tokens ++ (q.part.tokens ++ ((lexeme g.X.AsStr.text c.in-Ok.ensures.token) ∷ []))) s))
+    (needs_end g.X.AsStr.text (kind.Operator sign.RightBrace) c.in-Ok-operators.value.level y.part
     (valuing v.entries q.part.tree
-    (v.tokens ++ (q.part.tokens ++ ((lexeme g.X.AsStr.text c.in_ok-expect_place.ensures.token) ∷ []))) s)
-    c.operators-in-loop-self.new.self refl c.in_ok-value.ensures.over c.in_ok-value.ensures.undotted
+    (v.tokens ++ (q.part.tokens ++ ((lexeme g.X.AsStr.text c.in-Ok.ensures.token) ∷ []))) s)
+    c.operators-in-loop-self.new.self refl c.in-Ok-operators.ensures.over c.in-Ok-operators.ensures.undotted
     (λ u e n. value_unended v.entries q.part.tree
-    (v.tokens ++ (q.part.tokens ++ ((lexeme g.X.AsStr.text c.in_ok-expect_place.ensures.token) ∷ []))) s y.part
+    (v.tokens ++ (q.part.tokens ++ ((lexeme g.X.AsStr.text c.in-Ok.ensures.token) ∷ []))) s y.part
     (lexeme g.X.AsStr.text u) u.kind (not_seen (kind.Operator sign.Comma) (sym c.sees-in-loop-self.ensures
     ∙ c.if-not-sees.true) e) n)))) c.in_err-close-2.ensures)
 
 pub dict-returns-then-not-sees-clause-reads : goal.dict-returns-then-not-sees-clause-reads
 dict-returns-then-not-sees-clause-reads g t c = entry_last g.X.AsStr g.I.Iterator c.loop-self.invariant.entries
     (sym c.sees.ensures ∙ c.if-sees.false)
-    c.in_ok-key.ensures.reads c.in_ok-expect_place.ensures.takes c.in_ok-expect_place.ensures.is
-    c.in_ok-value.ensures.reads
+    c.in_ok-key.ensures.reads c.in-Ok.ensures.takes c.in-Ok.ensures.is
+    c.in-Ok-operators.ensures.reads
     c.in_ok-push.ensures c.in_ok-close-2.ensures.takes c.in_ok-close-2.ensures.is c.in_ok-close-2.ensures.ends
     c.dict-then-not-sees.ensures.0
     c.dict-then-not-sees.ensures.1 c.loop-self.invariant.later
@@ -300,12 +294,12 @@ pub dict-returns-in_err-skip-clause-reads : goal.dict-returns-in_err-skip-clause
 dict-returns-in_err-skip-clause-reads g t c = let p = err_from_is_err_and c.from_residual-in_err-skip.result
     c.from_residual-in_err-skip.ensures.1 in
     rw (p.1, p.2) (blame (λ o w. λ s r. let v = c.loop-self.invariant.entries in let q = c.in_ok-key.ensures.reads in
-    let y = c.in_ok-value.ensures.reads in value_read g.X.AsStr g.I.Iterator v s r
-    (sym c.sees.ensures ∙ c.if-sees.false) q c.in_ok-expect_place.ensures.takes
-    c.in_ok-expect_place.ensures.is y o
+    let y = c.in-Ok-operators.ensures.reads in value_read g.X.AsStr g.I.Iterator v s r
+    (sym c.sees.ensures ∙ c.if-sees.false) q c.in-Ok.ensures.takes
+    c.in-Ok.ensures.is y o
     (w
-    (at (have c.in_ok-value.value.level y.part (valuing v.entries q.part.tree
-    (v.tokens ++ (q.part.tokens ++ ((lexeme g.X.AsStr.text c.in_ok-expect_place.ensures.token) ∷ []))) s))) (λ _.
+    (at (have c.in-Ok-operators.value.level y.part (valuing v.entries q.part.tree
+    (v.tokens ++ (q.part.tokens ++ ((lexeme g.X.AsStr.text c.in-Ok.ensures.token) ∷ []))) s))) (λ _.
     refl)))
     c.in_err-skip.ensures)
 
@@ -316,13 +310,13 @@ dict-loop-self-preserved g t c = let k = c.in_ok-skip.ensures.takes in record {
     arith,
     c.loop-self.invariant.later,
     c.in_ok-key.ensures.reads.later,
-    c.in_ok-expect_place.ensures.takes.later,
-    c.in_ok-value.ensures.reads.later,
+    c.in-Ok.ensures.takes.later,
+    c.in-Ok-operators.ensures.reads.later,
     k.later,
   );
   entries = entry_more g.X.AsStr g.I.Iterator
       c.loop-self.invariant.entries (sym c.sees.ensures ∙ c.if-sees.false) c.in_ok-key.ensures.reads
-      c.in_ok-expect_place.ensures.takes c.in_ok-expect_place.ensures.is c.in_ok-value.ensures.reads
+      c.in-Ok.ensures.takes c.in-Ok.ensures.is c.in-Ok-operators.ensures.reads
       c.in_ok-push.ensures k
       (kind_seen (kind.Operator sign.Comma) (sym c.sees-in-loop-self.ensures ∙ c.if-not-sees.false)
       c.in_ok-skip.ensures.takes.here);
@@ -381,10 +375,8 @@ group-returns-in_err-first-clause-reads g t c = let p = err_from_is_err_and c.fr
     ((lexeme g.X.AsStr.text c.in_ok-open.ensures.token) ∷ []) s (sym c.sees.ensures ∙ c.if-sees.false) o
     (w (grouping ((lexeme g.X.AsStr.text c.in_ok-open.ensures.token) ∷ []) s) refl))) c.in_err-first.ensures.reads)
 
-pub group-returns-in_err-close-2-clause-reads : goal.group-returns-in_err-close-2-clause-reads
-group-returns-in_err-close-2-clause-reads g t c = let p = err_from_is_err_and c.from_residual-in_err-close-2.result
-    c.from_residual-in_err-close-2.ensures.1 in
-    rw (p.1, p.2) (blame (λ o w. λ s r. let q = c.in_ok-first.ensures.reads in
+pub group-returns-in-Err-clause-reads : goal.group-returns-in-Err-clause-reads
+group-returns-in-Err-clause-reads g t c = blame (λ o w. λ s r. let q = c.in_ok-first.ensures.reads in
     step_to (operand s) (group_due ((lexeme g.X.AsStr.text c.in_ok-open.ensures.token) ∷ []) s)
     c.in_ok-open.ensures.takes
     (ap (transition (operand s) (lexeme g.X.AsStr.text c.in_ok-open.ensures.token))
@@ -394,16 +386,16 @@ group-returns-in_err-close-2-clause-reads g t c = let p = err_from_is_err_and c.
     (q.leads (grouping ((lexeme g.X.AsStr.text c.in_ok-open.ensures.token) ∷ []) s) refl o
     (w (at (have c.in_ok-first.first.level q.part (grouping ((lexeme g.X.AsStr.text c.in_ok-open.ensures.token) ∷ [])
     s)))
-    (λ _. refl))))) c.in_err-close-2.ensures)
+    (λ _. refl))))) c.in-Err.ensures
 
 pub group-returns-then-sees-2-clause-reads : goal.group-returns-then-sees-2-clause-reads
 group-returns-then-sees-2-clause-reads g t c = let q = c.in_ok-first.ensures.reads in let k =
-    c.in_ok-close-2.ensures.takes in
+    c.in-Ok.ensures.takes in
     rw c.grouped.ensures (record {
       part = grouped ((lexeme g.X.AsStr.text c.in_ok-open.ensures.token) ∷ []) q.part
-          (lexeme g.X.AsStr.text c.in_ok-close-2.ensures.token);
+          (lexeme g.X.AsStr.text c.in-Ok.ensures.token);
       keeps = keeps_grouped c.in_ok-first.first q.part (lexeme g.X.AsStr.text c.in_ok-open.ensures.token)
-          (lexeme g.X.AsStr.text c.in_ok-close-2.ensures.token) c.in_ok-open.ensures.starts c.in_ok-close-2.ensures.ends
+          (lexeme g.X.AsStr.text c.in-Ok.ensures.token) c.in_ok-open.ensures.starts c.in-Ok.ensures.ends
           q.keeps;
       low = omega arith;
       ready = k.ready;
@@ -418,18 +410,15 @@ group-returns-then-sees-2-clause-reads g t c = let q = c.in_ok-first.ensures.rea
           (step_to (have c.in_ok-first.first.level q.part (grouping ((lexeme g.X.AsStr.text c.in_ok-open.ensures.token)
           ∷ []) s))
           (have 7 (grouped ((lexeme g.X.AsStr.text c.in_ok-open.ensures.token) ∷ []) q.part
-          (lexeme g.X.AsStr.text c.in_ok-close-2.ensures.token)) s) k
+          (lexeme g.X.AsStr.text c.in-Ok.ensures.token)) s) k
           (ap (transition (have c.in_ok-first.first.level q.part
           (grouping ((lexeme g.X.AsStr.text c.in_ok-open.ensures.token) ∷ []) s))
-          (lexeme g.X.AsStr.text c.in_ok-close-2.ensures.token)) (kind_seen (kind.Operator sign.RightParenthesis)
-          (sym c.sees-2.ensures ∙ c.if-sees-2.true) c.in_ok-close-2.ensures.takes.here)) o x)));
+          (lexeme g.X.AsStr.text c.in-Ok.ensures.token)) (kind_seen (kind.Operator sign.RightParenthesis)
+          (sym c.sees-2.ensures ∙ c.if-sees-2.true) c.in-Ok.ensures.takes.here)) o x)));
     })
 
-pub group-returns-in_err-expect_place-clause-reads : goal.group-returns-in_err-expect_place-clause-reads
-group-returns-in_err-expect_place-clause-reads g t c = let p = err_from_is_err_and
-    c.from_residual-in_err-expect_place.result
-    c.from_residual-in_err-expect_place.ensures.1 in
-    rw (p.1, p.2) (blame (λ o w. λ s r. let q = c.in_ok-first.ensures.reads in
+pub group-returns-in-Err-expect_place-clause-reads : goal.group-returns-in-Err-expect_place-clause-reads
+group-returns-in-Err-expect_place-clause-reads g t c = blame (λ o w. λ s r. let q = c.in_ok-first.ensures.reads in
     step_to (operand s) (group_due ((lexeme g.X.AsStr.text c.in_ok-open.ensures.token) ∷ []) s)
     c.in_ok-open.ensures.takes
     (ap (transition (operand s) (lexeme g.X.AsStr.text c.in_ok-open.ensures.token))
@@ -443,7 +432,7 @@ group-returns-in_err-expect_place-clause-reads g t c = let p = err_from_is_err_a
     c.in_ok-first.ensures.over c.in_ok-first.ensures.undotted
     (λ u e n. group_unended ((lexeme g.X.AsStr.text c.in_ok-open.ensures.token) ∷ []) s q.part (lexeme g.X.AsStr.text u)
     u.kind (not_seen (kind.Operator sign.RightParenthesis) (sym c.sees-2.ensures ∙ c.if-sees-2.false) e) n))))))
-    c.in_err-expect_place.ensures)
+    c.in-Err-expect_place.ensures
 
 pub group-returns-in_err-items-clause-reads : goal.group-returns-in_err-items-clause-reads
 group-returns-in_err-items-clause-reads g t c = let p = err_from_is_err_and c.from_residual-in_err-items.result
@@ -459,23 +448,23 @@ group-returns-in_err-items-clause-reads g t c = let p = err_from_is_err_and c.fr
     (step_to (have c.in_ok-first.first.level q.part (grouping ((lexeme g.X.AsStr.text c.in_ok-open.ensures.token) ∷ [])
     s))
     (item_due in_tuple (more_exprs q.part.tree no_exprs) ((lexeme g.X.AsStr.text c.in_ok-open.ensures.token)
-    ∷ (q.part.tokens ++ ((lexeme g.X.AsStr.text c.in_ok-expect_place.ensures.token) ∷ []))) s)
-    c.in_ok-expect_place.ensures.takes
+    ∷ (q.part.tokens ++ ((lexeme g.X.AsStr.text c.in-Ok-expect_place.ensures.token) ∷ []))) s)
+    c.in-Ok-expect_place.ensures.takes
     (ap (transition (have c.in_ok-first.first.level q.part (grouping ((lexeme g.X.AsStr.text c.in_ok-open.ensures.token)
     ∷ [])
     s))
-    (lexeme g.X.AsStr.text c.in_ok-expect_place.ensures.token)) c.in_ok-expect_place.ensures.is) o
+    (lexeme g.X.AsStr.text c.in-Ok-expect_place.ensures.token)) c.in-Ok-expect_place.ensures.is) o
     (w in_tuple (more_exprs q.part.tree no_exprs) ((lexeme g.X.AsStr.text c.in_ok-open.ensures.token)
-    ∷ (q.part.tokens ++ ((lexeme g.X.AsStr.text c.in_ok-expect_place.ensures.token) ∷ []))) s refl)))))
+    ∷ (q.part.tokens ++ ((lexeme g.X.AsStr.text c.in-Ok-expect_place.ensures.token) ∷ []))) s refl)))))
     c.in_err-items.ensures)
 
 pub group-returns-clause-reads : goal.group-returns-clause-reads
 group-returns-clause-reads g t c = let q = c.in_ok-first.ensures.reads in let n = c.in_ok-items.ensures in
     bracketed g.X.AsStr g.I.Iterator in_tuple
     (more_exprs q.part.tree no_exprs) ((lexeme g.X.AsStr.text c.in_ok-open.ensures.token)
-    ∷ (q.part.tokens ++ ((lexeme g.X.AsStr.text c.in_ok-expect_place.ensures.token) ∷ [])))
+    ∷ (q.part.tokens ++ ((lexeme g.X.AsStr.text c.in-Ok-expect_place.ensures.token) ∷ [])))
     (n.lists in_tuple (more_exprs q.part.tree no_exprs) ((lexeme g.X.AsStr.text c.in_ok-open.ensures.token)
-    ∷ (q.part.tokens ++ ((lexeme g.X.AsStr.text c.in_ok-expect_place.ensures.token) ∷ []))) refl
+    ∷ (q.part.tokens ++ ((lexeme g.X.AsStr.text c.in-Ok-expect_place.ensures.token) ∷ []))) refl
     (c.in_ok-push.ensures no_exprs q.part c.new-some.ensures q.keeps))
     (starts_at (lexeme g.X.AsStr.text c.in_ok-open.ensures.token) _ c.in_ok-open.ensures.starts)
     (λ u e. same_place c.in_ok-open.ensures.takes.here e) (λ s r o x. step_to (operand s)
@@ -488,41 +477,38 @@ group-returns-clause-reads g t c = let q = c.in_ok-first.ensures.reads in let n 
     (step_to (have c.in_ok-first.first.level q.part (grouping ((lexeme g.X.AsStr.text c.in_ok-open.ensures.token) ∷ [])
     s))
     (item_due in_tuple (more_exprs q.part.tree no_exprs) ((lexeme g.X.AsStr.text c.in_ok-open.ensures.token)
-    ∷ (q.part.tokens ++ ((lexeme g.X.AsStr.text c.in_ok-expect_place.ensures.token) ∷ []))) s)
-    c.in_ok-expect_place.ensures.takes
+    ∷ (q.part.tokens ++ ((lexeme g.X.AsStr.text c.in-Ok-expect_place.ensures.token) ∷ []))) s)
+    c.in-Ok-expect_place.ensures.takes
     (ap (transition (have c.in_ok-first.first.level q.part (grouping ((lexeme g.X.AsStr.text c.in_ok-open.ensures.token)
     ∷ [])
     s))
-    (lexeme g.X.AsStr.text c.in_ok-expect_place.ensures.token)) c.in_ok-expect_place.ensures.is) o (x)))))
+    (lexeme g.X.AsStr.text c.in-Ok-expect_place.ensures.token)) c.in-Ok-expect_place.ensures.is) o (x)))))
     c.tuple-2.ensures.0
     c.tuple-2.ensures.1 n.ready (omega (
       arith,
       c.in_ok-open.ensures.takes.later,
       q.later,
-      c.in_ok-expect_place.ensures.takes.later,
+      c.in-Ok-expect_place.ensures.takes.later,
       n.later,
     ))
 
-pub index-returns-in_err-key : goal.index-returns-in_err-key
-index-returns-in_err-key g t c = let p = err_from_is_err_and c.from_residual.result c.from_residual.ensures.1 in
-    rw (p.1, p.2) (blame (λ o w. λ k q s kq. w (indexing q.tree (q.tokens ++ (k ∷ [])) s) refl)
-    c.in_err-key.ensures.reads)
+pub index-returns-in-Err : goal.index-returns-in-Err
+index-returns-in-Err g t c = blame (λ o w. λ k q s kq. w (indexing q.tree (q.tokens ++ (k ∷ [])) s) refl)
+    c.in-Err.ensures.reads
 
-pub index-returns-in_err-close : goal.index-returns-in_err-close
-index-returns-in_err-close g t c = let p = err_from_is_err_and c.from_residual-in_err-close.result
-    c.from_residual-in_err-close.ensures.1 in
-    rw (p.1, p.2) (blame (λ o w. λ k r s kr. let q = c.in_ok-key.ensures.reads in
+pub index-returns-in-Err-expect_place : goal.index-returns-in-Err-expect_place
+index-returns-in-Err-expect_place g t c = blame (λ o w. λ k r s kr. let q = c.in-Ok.ensures.reads in
     q.leads (indexing r.tree (r.tokens ++ (k ∷ [])) s) refl o
-    (w (have c.in_ok-key.key.level q.part (indexing r.tree (r.tokens ++ (k ∷ [])) s))
-    (needs_end g.X.AsStr.text (kind.Operator sign.RightBracket) c.in_ok-key.key.level q.part
-    (indexing r.tree (r.tokens ++ (k ∷ [])) s) c.operators.new.self refl c.in_ok-key.ensures.over
-    c.in_ok-key.ensures.undotted
+    (w (have c.in-Ok.key.level q.part (indexing r.tree (r.tokens ++ (k ∷ [])) s))
+    (needs_end g.X.AsStr.text (kind.Operator sign.RightBracket) c.in-Ok.key.level q.part
+    (indexing r.tree (r.tokens ++ (k ∷ [])) s) c.operators.new.self refl c.in-Ok.ensures.over
+    c.in-Ok.ensures.undotted
     (λ u e n. index_unended r.tree (r.tokens ++ (k ∷ [])) s q.part (lexeme g.X.AsStr.text u) u.kind n))))
-    c.in_err-close.ensures)
+    c.in-Err-expect_place.ensures
 
 pub index-returns : goal.index-returns
-index-returns g t c = let k = c.in_ok-close.ensures in on_result c.indexed.result _ _ _
-    (λ o j. indexed_with g.X.AsStr g.I.Iterator c.in_ok-key.ensures.reads k.takes k.is k.ends j.0 j.1) c.indexed.ensures
+index-returns g t c = let k = c.in-Ok-expect_place.ensures in on_result c.indexed.result _ _ _
+    (λ o j. indexed_with g.X.AsStr g.I.Iterator c.in-Ok.ensures.reads k.takes k.is k.ends j.0 j.1) c.indexed.ensures
 
 pub items-loop-alloc-init : goal.items-loop-alloc-init
 items-loop-alloc-init g t c = record {
@@ -715,28 +701,24 @@ keywords-loop-name-preserved g t c = let k = c.in_ok-expect_place.ensures in let
           c.in_ok-name.ensures k.takes k.is;
     }
 
-pub operators-returns-in_err-infix-clause-reads : goal.operators-returns-in_err-infix-clause-reads
-operators-returns-in_err-infix-clause-reads g t c = let p = err_from_is_err_and c.from_residual-in_err-infix.result
-    c.from_residual-in_err-infix.ensures.1 in
-    rw (p.1, p.2) (blame (λ o w. λ s r. c.loop-link.invariant.gives.leads s r o
+pub operators-returns-in-Err-clause-reads : goal.operators-returns-in-Err-clause-reads
+operators-returns-in-Err-clause-reads g t c = blame (λ o w. λ s r. c.loop-link.invariant.gives.leads s r o
     (w (λ u e. has_link c.in-Some.ensures e) c.loop-link.left.level c.loop-link.invariant.gives.part s
-    c.in-Some.ensures.goes (omega (arith, c.in-Some.ensures.binds, r)))) c.in_err-infix.ensures)
+    c.in-Some.ensures.goes (omega (arith, c.in-Some.ensures.binds, r)))) c.in-Err.ensures
 
-pub operators-returns-in_err-right-clause-reads : goal.operators-returns-in_err-right-clause-reads
-operators-returns-in_err-right-clause-reads g t c = let p = err_from_is_err_and c.from_residual-in_err-right.result
-    c.from_residual-in_err-right.ensures.1 in
-    rw (p.1, p.2) (blame (λ o w. λ s r. let i = rw c.in-Some-2.is at c.in_ok-infix.ensures in let v =
+pub operators-returns-in-Err-operators-clause-reads : goal.operators-returns-in-Err-operators-clause-reads
+operators-returns-in-Err-operators-clause-reads g t c = blame (λ o w. λ s r. let i = rw c.in-Some-infix.is at c.in-Ok.ensures in let v =
     c.loop-link.invariant.gives in let h = c.in-Some.ensures in
     v.leads s r o (i.leads (λ u e. has_link c.in-Some.ensures e) c.loop-link.left.level v.part s h.goes
-    (omega (arith, h.binds, r)) o (w (joining (infix_of c.in-Some-2.infix) v.part i.tokens s)
-    (sym c.right.ensures)))) c.in_err-right.ensures.reads)
+    (omega (arith, h.binds, r)) o (w (joining (infix_of c.in-Some-infix.infix) v.part i.tokens s)
+    (sym c.right.ensures)))) c.in-Err-operators.ensures.reads
 
-pub operators-loop-link-preserved-in-Some-2 : goal.operators-loop-link-preserved-in-Some-2
-operators-loop-link-preserved-in-Some-2 g t c = let i = rw c.in-Some-2.is at c.in_ok-infix.ensures in let v =
-    c.loop-link.invariant.gives in let h = c.in-Some.ensures in let q = c.in_ok-right.ensures.reads in let j =
+pub operators-loop-link-preserved-in-Some-infix : goal.operators-loop-link-preserved-in-Some-infix
+operators-loop-link-preserved-in-Some-infix g t c = let i = rw c.in-Some-infix.is at c.in-Ok.ensures in let v =
+    c.loop-link.invariant.gives in let h = c.in-Some.ensures in let q = c.in-Ok-operators.ensures.reads in let j =
     c.in_ok-left-2.ensures in record {
       gives = record {
-        part = joined (infix_of c.in-Some-2.infix) v.part i.tokens q.part;
+        part = joined (infix_of c.in-Some-infix.infix) v.part i.tokens q.part;
         keeps = j.1 v.part q.part v.keeps q.keeps _ (starts_more _ v.keeps.starts)
             (ends_more v.part.tokens (ends_more i.tokens q.keeps.ends));
         low = omega (arith, j.0, i.own, h.binds);
@@ -744,28 +726,28 @@ operators-loop-link-preserved-in-Some-2 g t c = let i = rw c.in-Some-2.is at c.i
         later = omega (arith, v.later, i.later, q.later);
         begins = λ u e. first_more _ v.keeps.starts ∙ v.begins u e;
         leads = λ s r o x. v.leads s r o (i.leads (λ u e. has_link c.in-Some.ensures e) c.loop-link.left.level v.part s
-            h.goes (omega (arith, h.binds, r)) o (q.leads (joining (infix_of c.in-Some-2.infix) v.part i.tokens s)
+            h.goes (omega (arith, h.binds, r)) o (q.leads (joining (infix_of c.in-Some-infix.infix) v.part i.tokens s)
             (sym c.right.ensures) o
-            (joins g.X.AsStr.text g.I.Iterator.next_gives c.operators.new.self (infix_of c.in-Some-2.infix) v.part
-            i.tokens q.part s c.in_ok-right.right.level (omega (arith, q.low, c.right.ensures))
-            (subst (λ n. NextIs (Over n c.in_ok-right.right.level) c.operators.new.self.ahead) c.right.ensures
-            c.in_ok-right.ensures.over) c.in_ok-right.ensures.undotted o
+            (joins g.X.AsStr.text g.I.Iterator.next_gives c.operators.new.self (infix_of c.in-Some-infix.infix) v.part
+            i.tokens q.part s c.in-Ok-operators.right.level (omega (arith, q.low, c.right.ensures))
+            (subst (λ n. NextIs (Over n c.in-Ok-operators.right.level) c.operators.new.self.ahead) c.right.ensures
+            c.in-Ok-operators.ensures.over) c.in-Ok-operators.ensures.undotted o
             (subst (λ n. Came g.X.AsStr.text g.I.Iterator.next_gives c.operators.new.self
-            (at (have n (joined (infix_of c.in-Some-2.infix) v.part i.tokens q.part) s)) o) j.0 x))));
+            (at (have n (joined (infix_of c.in-Some-infix.infix) v.part i.tokens q.part) s)) o) j.0 x))));
       };
-      undotted = low_undotted _ _ (omega (arith, j.0, own_low (infix_of c.in-Some-2.infix)));
+      undotted = low_undotted _ _ (omega (arith, j.0, own_low (infix_of c.in-Some-infix.infix)));
     }
 
 pub operators-returns-in_err-left-3-clause-reads : goal.operators-returns-in_err-left-3-clause-reads
 operators-returns-in_err-left-3-clause-reads g t c = let p = err_from_is_err_and c.from_residual-in_err-left-3.result
     c.from_residual-in_err-left-3.ensures.1 in
-    rw (p.1, p.2) (blame (λ o w. λ s r. let i = rw c.in_default-2.is at c.in_ok-infix.ensures in let v =
+    rw (p.1, p.2) (blame (λ o w. λ s r. let i = rw c.in_default-infix.is at c.in-Ok.ensures in let v =
     c.loop-link.invariant.gives in let h = c.in-Some.ensures in
     v.leads s r o (i.leads (λ u e. has_link c.in-Some.ensures e) c.loop-link.left.level v.part s h.goes
     (omega (arith, h.binds, r)) o (w i.token v.part s v.keeps))) c.in_err-left-3.ensures)
 
 pub operators-loop-link-preserved : goal.operators-loop-link-preserved
-operators-loop-link-preserved g t c = let i = rw c.in_default-2.is at c.in_ok-infix.ensures in let v =
+operators-loop-link-preserved g t c = let i = rw c.in_default-infix.is at c.in-Ok.ensures in let v =
     c.loop-link.invariant.gives in let h = c.in-Some.ensures in let n = c.in_ok-left-3.ensures in let k =
     n.goes i.token v.part v.keeps in record {
       gives = record {
@@ -783,89 +765,83 @@ operators-loop-link-preserved g t c = let i = rw c.in_default-2.is at c.in_ok-in
       undotted = low_undotted _ _ (omega (arith, n.level_is));
     }
 
-pub postfix-returns-in_err-skip-clause-reads : goal.postfix-returns-in_err-skip-clause-reads
-postfix-returns-in_err-skip-clause-reads g t c = let p = err_from_is_err_and c.from_residual-in_err-skip.result
-    c.from_residual-in_err-skip.ensures.1 in
-    rw (p.1, p.2) (blame (λ o w. λ s r. let v = c.loop-self.invariant.gives in
-    v.leads s r o (w (at (have c.loop-self.operand.level v.part s)) (λ _. refl))) c.in_err-skip.ensures)
+pub postfix-returns-in-Err-clause-reads : goal.postfix-returns-in-Err-clause-reads
+postfix-returns-in-Err-clause-reads g t c = blame (λ o w. λ s r. let v = c.loop-self.invariant.gives in
+    v.leads s r o (w (at (have c.loop-self.operand.level v.part s)) (λ _. refl))) c.in-Err.ensures
 
 pub postfix-returns-in_err-operand-2-clause-reads : goal.postfix-returns-in_err-operand-2-clause-reads
 postfix-returns-in_err-operand-2-clause-reads g t c = let p =
     err_from_is_err_and c.from_residual-in_err-operand-2.result c.from_residual-in_err-operand-2.ensures.1 in
     rw (p.1, p.2) (blame (λ o w. λ s r. let v = c.loop-self.invariant.gives in
     v.leads s r o (step_to (have c.loop-self.operand.level v.part s)
-    (dotted v.part ((lexeme g.X.AsStr.text c.in_ok-skip.ensures.token) ∷ []) s) c.in_ok-skip.ensures.takes
-    (dot_turn c.loop-self.operand.level v.part s (lexeme g.X.AsStr.text c.in_ok-skip.ensures.token) _ v.low
-    (kind_seen (kind.Operator sign.Dot) (sym c.sees.ensures ∙ c.if-sees.true) c.in_ok-skip.ensures.takes.here)) o
-    (w (lexeme g.X.AsStr.text c.in_ok-skip.ensures.token) v.part s v.keeps))) c.in_err-operand-2.ensures)
+    (dotted v.part ((lexeme g.X.AsStr.text c.in-Ok.ensures.token) ∷ []) s) c.in-Ok.ensures.takes
+    (dot_turn c.loop-self.operand.level v.part s (lexeme g.X.AsStr.text c.in-Ok.ensures.token) _ v.low
+    (kind_seen (kind.Operator sign.Dot) (sym c.sees.ensures ∙ c.if-sees.true) c.in-Ok.ensures.takes.here)) o
+    (w (lexeme g.X.AsStr.text c.in-Ok.ensures.token) v.part s v.keeps))) c.in_err-operand-2.ensures)
 
 pub postfix-loop-self-preserved-then-sees : goal.postfix-loop-self-preserved-then-sees
 postfix-loop-self-preserved-then-sees g t c = let v = c.loop-self.invariant.gives in
     record {
       gives = goes_on g.X.AsStr g.I.Iterator
-          (λ d p s. dotted p (d ∷ []) s) (lexeme g.X.AsStr.text c.in_ok-skip.ensures.token) v c.in_ok-skip.ensures.takes
-          (λ s. (dot_turn c.loop-self.operand.level v.part s (lexeme g.X.AsStr.text c.in_ok-skip.ensures.token) _ v.low
-          (kind_seen (kind.Operator sign.Dot) (sym c.sees.ensures ∙ c.if-sees.true) c.in_ok-skip.ensures.takes.here)))
+          (λ d p s. dotted p (d ∷ []) s) (lexeme g.X.AsStr.text c.in-Ok.ensures.token) v c.in-Ok.ensures.takes
+          (λ s. (dot_turn c.loop-self.operand.level v.part s (lexeme g.X.AsStr.text c.in-Ok.ensures.token) _ v.low
+          (kind_seen (kind.Operator sign.Dot) (sym c.sees.ensures ∙ c.if-sees.true) c.in-Ok.ensures.takes.here)))
           c.in_ok-operand-2.ensures;
       level_is = c.in_ok-operand-2.ensures.level_is;
     }
 
-pub postfix-returns-in_err-skip-2-clause-reads : goal.postfix-returns-in_err-skip-2-clause-reads
-postfix-returns-in_err-skip-2-clause-reads g t c = let p = err_from_is_err_and c.from_residual-in_err-skip-2.result
-    c.from_residual-in_err-skip-2.ensures.1 in
-    rw (p.1, p.2) (blame (λ o w. λ s r. let v = c.loop-self.invariant.gives in
-    v.leads s r o (w (at (have c.loop-self.operand.level v.part s)) (λ _. refl))) c.in_err-skip-2.ensures)
+pub postfix-returns-in-Err-skip-clause-reads : goal.postfix-returns-in-Err-skip-clause-reads
+postfix-returns-in-Err-skip-clause-reads g t c = blame (λ o w. λ s r. let v = c.loop-self.invariant.gives in
+    v.leads s r o (w (at (have c.loop-self.operand.level v.part s)) (λ _. refl))) c.in-Err-skip.ensures
 
 pub postfix-returns-in_err-operand-3-clause-reads : goal.postfix-returns-in_err-operand-3-clause-reads
 postfix-returns-in_err-operand-3-clause-reads g t c = let p =
     err_from_is_err_and c.from_residual-in_err-operand-3.result c.from_residual-in_err-operand-3.ensures.1 in
     rw (p.1, p.2) (blame (λ o w. λ s r. let v = c.loop-self.invariant.gives in
     v.leads s r o (step_to (have c.loop-self.operand.level v.part s)
-    (operand (indexing v.part.tree (v.part.tokens ++ ((lexeme g.X.AsStr.text c.in_ok-skip-2.ensures.token) ∷ [])) s))
-    c.in_ok-skip-2.ensures.takes (index_turn c.loop-self.operand.level v.part s
-    (lexeme g.X.AsStr.text c.in_ok-skip-2.ensures.token) _ v.low (kind_seen (kind.Operator sign.LeftBracket)
-    (sym c.sees-else-sees.ensures ∙ c.if-sees-2.true) c.in_ok-skip-2.ensures.takes.here)) o
-    (w (lexeme g.X.AsStr.text c.in_ok-skip-2.ensures.token) v.part s v.keeps))) c.in_err-operand-3.ensures)
+    (operand (indexing v.part.tree (v.part.tokens ++ ((lexeme g.X.AsStr.text c.in-Ok-skip.ensures.token) ∷ [])) s))
+    c.in-Ok-skip.ensures.takes (index_turn c.loop-self.operand.level v.part s
+    (lexeme g.X.AsStr.text c.in-Ok-skip.ensures.token) _ v.low (kind_seen (kind.Operator sign.LeftBracket)
+    (sym c.sees-else-sees.ensures ∙ c.if-sees-2.true) c.in-Ok-skip.ensures.takes.here)) o
+    (w (lexeme g.X.AsStr.text c.in-Ok-skip.ensures.token) v.part s v.keeps))) c.in_err-operand-3.ensures)
 
 pub postfix-loop-self-preserved-then-sees-2 : goal.postfix-loop-self-preserved-then-sees-2
 postfix-loop-self-preserved-then-sees-2 g t c = let v = c.loop-self.invariant.gives in
     record {
       gives = goes_on g.X.AsStr g.I.Iterator
           (λ d p s. operand (indexing p.tree (p.tokens ++ (d ∷ [])) s))
-          (lexeme g.X.AsStr.text c.in_ok-skip-2.ensures.token) v c.in_ok-skip-2.ensures.takes
-          (λ s. (index_turn c.loop-self.operand.level v.part s (lexeme g.X.AsStr.text c.in_ok-skip-2.ensures.token) _
+          (lexeme g.X.AsStr.text c.in-Ok-skip.ensures.token) v c.in-Ok-skip.ensures.takes
+          (λ s. (index_turn c.loop-self.operand.level v.part s (lexeme g.X.AsStr.text c.in-Ok-skip.ensures.token) _
           v.low (kind_seen (kind.Operator sign.LeftBracket) (sym c.sees-else-sees.ensures ∙ c.if-sees-2.true)
-          c.in_ok-skip-2.ensures.takes.here))) c.in_ok-operand-3.ensures;
+          c.in-Ok-skip.ensures.takes.here))) c.in_ok-operand-3.ensures;
       level_is = c.in_ok-operand-3.ensures.level_is;
     }
 
-pub postfix-returns-in_err-skip-3-clause-reads : goal.postfix-returns-in_err-skip-3-clause-reads
-postfix-returns-in_err-skip-3-clause-reads g t c = let p = err_from_is_err_and c.from_residual-in_err-skip-3.result
-    c.from_residual-in_err-skip-3.ensures.1 in
-    rw (p.1, p.2) (blame (λ o w. λ s r. let v = c.loop-self.invariant.gives in
-    v.leads s r o (w (at (have c.loop-self.operand.level v.part s)) (λ _. refl))) c.in_err-skip-3.ensures)
+pub postfix-returns-in-Err-skip-2-clause-reads : goal.postfix-returns-in-Err-skip-2-clause-reads
+postfix-returns-in-Err-skip-2-clause-reads g t c = blame (λ o w. λ s r. let v = c.loop-self.invariant.gives in
+    v.leads s r o (w (at (have c.loop-self.operand.level v.part s)) (λ _. refl))) c.in-Err-skip-2.ensures
 
 pub postfix-returns-in_err-operand-4-clause-reads : goal.postfix-returns-in_err-operand-4-clause-reads
 postfix-returns-in_err-operand-4-clause-reads g t c = let p =
     err_from_is_err_and c.from_residual-in_err-operand-4.result c.from_residual-in_err-operand-4.ensures.1 in
     rw (p.1, p.2) (blame (λ o w. λ s r. let v = c.loop-self.invariant.gives in
     v.leads s r o (step_to (have c.loop-self.operand.level v.part s)
-    (item_due (in_call v.part.tree) no_exprs (v.part.tokens ++ ((lexeme g.X.AsStr.text c.in_ok-skip-3.ensures.token)
-    ∷ [])) s) c.in_ok-skip-3.ensures.takes (call_turn c.loop-self.operand.level v.part s
-    (lexeme g.X.AsStr.text c.in_ok-skip-3.ensures.token) _ v.low (kind_seen (kind.Operator sign.LeftParenthesis)
-    (sym c.sees-else-sees-2.ensures ∙ c.if-sees-3.true) c.in_ok-skip-3.ensures.takes.here)) o
-    (w (lexeme g.X.AsStr.text c.in_ok-skip-3.ensures.token) v.part s v.keeps))) c.in_err-operand-4.ensures)
+    (item_due (in_call v.part.tree) no_exprs (v.part.tokens ++ ((lexeme g.X.AsStr.text c.in-Ok-skip-2.ensures.token)
+    ∷ [])) s) c.in-Ok-skip-2.ensures.takes (call_turn c.loop-self.operand.level v.part s
+    (lexeme g.X.AsStr.text c.in-Ok-skip-2.ensures.token) _ v.low (kind_seen (kind.Operator sign.LeftParenthesis)
+    (sym c.sees-else-sees-2.ensures ∙ c.if-sees-3.true) c.in-Ok-skip-2.ensures.takes.here)) o
+    (w (lexeme g.X.AsStr.text c.in-Ok-skip-2.ensures.token) v.part s v.keeps))) c.in_err-operand-4.ensures)
 
 pub postfix-loop-self-preserved : goal.postfix-loop-self-preserved
 postfix-loop-self-preserved g t c = let v = c.loop-self.invariant.gives in
     record {
       gives = goes_on g.X.AsStr g.I.Iterator
           (λ d p s. item_due (in_call p.tree) no_exprs (p.tokens ++ (d ∷ [])) s)
-          (lexeme g.X.AsStr.text c.in_ok-skip-3.ensures.token) v c.in_ok-skip-3.ensures.takes
-          (λ s. (call_turn c.loop-self.operand.level v.part s (lexeme g.X.AsStr.text c.in_ok-skip-3.ensures.token) _
+          (lexeme g.X.AsStr.text c.in-Ok-skip-2.ensures.token) v c.in-Ok-skip-2.ensures.takes
+          (λ s. (call_turn c.loop-self.operand.level v.part s (lexeme g.X.AsStr.text c.in-Ok-skip-2.ensures.token) _
           v.low
           (kind_seen (kind.Operator sign.LeftParenthesis) (sym c.sees-else-sees-2.ensures ∙ c.if-sees-3.true)
-          c.in_ok-skip-3.ensures.takes.here))) c.in_ok-operand-4.ensures;
+          c.in-Ok-skip-2.ensures.takes.here))) c.in_ok-operand-4.ensures;
       level_is = c.in_ok-operand-4.ensures.level_is;
     }
 

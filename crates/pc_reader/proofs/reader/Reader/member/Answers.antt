@@ -1,5 +1,4 @@
 use Rattle.std.proofs.Common.{[], ◌∷◌, ◌++◌, refl, ap, sym, ◌∙◌}
-use Rattle.std.proofs.lemmas.Result.{err_from_is_err_and}
 use Rattle.pc_tree.specs.Tree.{attribute, name_of}
 use Rattle.pc_grammar.specs.Machine.{transition}
 use Rattle.pc_grammar.specs.Machine.States.{have, dotted, go}
@@ -12,29 +11,28 @@ use Rattle.pc_reader.proofs.Steps.{step_to, needs, on_result}
 use Rattle.pc_reader.proofs.Building.{name_ends, first_more}
 use Rattle.pc_reader.proofs.reader.Reader.member.Goals as goal
 
-pub returns-in_err-name : goal.returns-in_err-name
-returns-in_err-name g c = let p = err_from_is_err_and c.from_residual.result c.from_residual.ensures.1 in
-    rw (p.1, p.2) (blame (λ o w. λ d p s kp. w (dotted p (d ∷ []) s)
+pub returns-in-Err : goal.returns-in-Err
+returns-in-Err g c = blame (λ o w. λ d p s kp. w (dotted p (d ∷ []) s)
     (needs (λ t. have 7 (bare_part (λ q. attribute q p.tree (name_of_token t)) (p.tokens ++ (d ∷ t ∷ []))) s) refl
-    (λ t k. refl))) c.in_err-name.ensures)
+    (λ t k. refl))) c.in-Err.ensures
 
 pub returns : goal.returns
-returns g c = let n = c.in_ok-name.ensures in on_result c.member.result _ _ _ (λ o h. record {
+returns g c = let n = c.in-Ok.ensures in on_result c.member.result _ _ _ (λ o h. record {
   level_is = h.0;
   ready = n.takes.ready;
   later = n.takes.later;
   goes = λ d p kp. record {
-    part = (bare_part (λ q. attribute q p.tree (name_of c.in_ok-name.name))
-        (p.tokens ++ (d ∷ (lexeme g.X.AsStr.text c.in_ok-name.ensures.token) ∷ [])));
+    part = (bare_part (λ q. attribute q p.tree (name_of c.in-Ok.name))
+        (p.tokens ++ (d ∷ (lexeme g.X.AsStr.text c.in-Ok.ensures.token) ∷ [])));
     keeps = h.1 p kp _ (starts_more _ kp.starts) (ends_more p.tokens
-        (ends_more (d ∷ []) (name_ends c.in_ok-name.name (lexeme g.X.AsStr.text c.in_ok-name.ensures.token) n.name)));
+        (ends_more (d ∷ []) (name_ends c.in-Ok.name (lexeme g.X.AsStr.text c.in-Ok.ensures.token) n.name)));
     begins = first_more _ kp.starts;
-    leads = λ s. step_to (dotted p (d ∷ []) s) (have 7 (bare_part (λ q. attribute q p.tree (name_of c.in_ok-name.name))
-        (p.tokens ++ (d ∷ (lexeme g.X.AsStr.text c.in_ok-name.ensures.token) ∷ []))) s) n.takes
-        (ap (transition (dotted p (d ∷ []) s) (lexeme g.X.AsStr.text c.in_ok-name.ensures.token)) n.is
+    leads = λ s. step_to (dotted p (d ∷ []) s) (have 7 (bare_part (λ q. attribute q p.tree (name_of c.in-Ok.name))
+        (p.tokens ++ (d ∷ (lexeme g.X.AsStr.text c.in-Ok.ensures.token) ∷ []))) s) n.takes
+        (ap (transition (dotted p (d ∷ []) s) (lexeme g.X.AsStr.text c.in-Ok.ensures.token)) n.is
         ∙ ap (λ z.
         go
-        (have 7 (bare_part (λ q. attribute q p.tree z) (p.tokens ++ (d ∷ (lexeme g.X.AsStr.text c.in_ok-name.ensures.token)
+        (have 7 (bare_part (λ q. attribute q p.tree z) (p.tokens ++ (d ∷ (lexeme g.X.AsStr.text c.in-Ok.ensures.token)
         ∷ []))) s)) (sym n.name));
   };
 }) c.member.ensures

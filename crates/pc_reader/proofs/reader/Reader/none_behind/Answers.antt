@@ -1,7 +1,6 @@
 use Rattle.std.specs.declared.convert.AsStr.{Ghosts as TextOf}
 use Rattle.std.specs.declared.iter.Iterator.{Ghosts as TokensOf}
 use Rattle.std.proofs.Common.{◌≡◌, [], ◌∷◌, ◌++◌, Result}
-use Rattle.std.proofs.lemmas.Result.{err_from_is_err_and}
 use Rattle.pc_source.specs.declared.fault.Fault.{Fault}
 use Rattle.pc_token.specs.declared.token.Token.{Token}
 use Rattle.pc_grammar.specs.Machine.States.{Part, identified}
@@ -33,10 +32,9 @@ tested texts source {n = n} v lv m = record {
   };
 }
 
-pub returns-in_err-negated : goal.returns-in_err-negated
-returns-in_err-negated g c = let p = err_from_is_err_and c.from_residual.result c.from_residual.ensures.1 in
-    rw (p.1, p.2) (blame (λ o w. λ d q s kq. w d q s) c.in_err-negated.ensures)
+pub returns-in-Err : goal.returns-in-Err
+returns-in-Err g c = blame (λ o w. λ d q s kq. w d q s) c.in-Err.ensures
 
 pub returns : goal.returns
 returns g c = on_result c.none_test.result _ _ _
-    (λ o h. tested g.X.AsStr g.I.Iterator c.in_ok-negated.ensures h.0 h.1) c.none_test.ensures
+    (λ o h. tested g.X.AsStr g.I.Iterator c.in-Ok.ensures h.0 h.1) c.none_test.ensures

@@ -1,5 +1,4 @@
 use Rattle.std.proofs.Common.{refl, arith, ap, sym, ◌∙◌}
-use Rattle.std.proofs.lemmas.Result.{err_from_is_err_and}
 use Rattle.pc_token.specs.declared.token.TokenKind.TheVariants as kind
 use Rattle.pc_token.specs.declared.token.Operator.TheVariants as sign
 use Rattle.pc_grammar.specs.Machine.{at}
@@ -27,13 +26,11 @@ returns-then-not-is_value-clause-reads g c = blame (λ o w. λ s h. w (operand s
       (not_seen (kind.Operator sign.Minus) h.primary.plain e) (undenied s h.primary.undenied e);
 })) c.misfit-then-not-is_value.ensures
 
-pub returns-in_err-skip-clause-reads : goal.returns-in_err-skip-clause-reads
-returns-in_err-skip-clause-reads g c = let p = err_from_is_err_and c.from_residual-in_err-skip.result
-    c.from_residual-in_err-skip.ensures.1 in
-    rw (p.1, p.2) (blame (λ o w. λ s h. w (at (operand s)) (λ _. refl)) c.in_err-skip.ensures)
+pub returns-in-Err-clause-reads : goal.returns-in-Err-clause-reads
+returns-in-Err-clause-reads g c = blame (λ o w. λ s h. w (at (operand s)) (λ _. refl)) c.in-Err.ensures
 
 pub returns-clause-reads : goal.returns-clause-reads
-returns-clause-reads g c = let t = skipped c.in-Some.is c.in_ok-skip.ensures in
+returns-clause-reads g c = let t = skipped c.in-Some.is c.in-Ok.ensures in
     let v = c.in_ok-operand.ensures.1 (sym c.is_value.ensures ∙ c.if-not-is_value.false) in record {
       part = v.part;
       keeps = v.keeps;
