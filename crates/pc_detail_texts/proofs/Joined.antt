@@ -50,6 +50,44 @@ pub on_ok : {T E : Type 0} (r : Result T E) (P Q : Type 0) → (P → Q) → OnO
 on_ok (Ok x) P Q f h = f h
 on_ok (Err e) P Q f h = h
 
+-- a piece after a text, and another unless there is an error
+pub two_ok : {T E : Type 0} (r : Result T E) (o a b p q : Words) → p ≡ o ++ a → OnOk r (q ≡ p ++ b)
+    → OnOk r (q ≡ o ++ (a ++ b))
+two_ok r o a b p q h i = on_ok r (q ≡ p ++ b) (q ≡ o ++ (a ++ b)) (two o a b p q h) i
+
+-- two pieces after a text, and a third unless there is an error
+pub three_ok : {T E : Type 0} (r : Result T E) (o a b c p q s : Words) → p ≡ o ++ a → q ≡ p ++ b
+    → OnOk r (s ≡ q ++ c) → OnOk r (s ≡ o ++ (a ++ (b ++ c)))
+three_ok r o a b c p q s h i j =
+    on_ok r (s ≡ q ++ c) (s ≡ o ++ (a ++ (b ++ c))) (three o a b c p q s h i) j
+
+-- a piece of three parts after a text, and another unless there is an error
+pub parts_and_one_ok : {T E : Type 0} (r : Result T E) (o a b c d p q : Words) → p ≡ o ++ (a ++ (b ++ c))
+    → OnOk r (q ≡ p ++ d) → OnOk r (q ≡ o ++ (a ++ (b ++ (c ++ d))))
+parts_and_one_ok r o a b c d p q h i =
+    on_ok r (q ≡ p ++ d) (q ≡ o ++ (a ++ (b ++ (c ++ d)))) (parts_and_one o a b c d p q h) i
+
+-- a piece of two parts and another after a text, and a third unless there is an error
+pub parts_and_two_ok : {T E : Type 0} (t : Result T E) (o a b c d p q r : Words) → p ≡ o ++ (a ++ b) → q ≡ p ++ c
+    → OnOk t (r ≡ q ++ d) → OnOk t (r ≡ o ++ (a ++ (b ++ (c ++ d))))
+parts_and_two_ok t o a b c d p q r h i j =
+    on_ok t (r ≡ q ++ d) (r ≡ o ++ (a ++ (b ++ (c ++ d)))) (parts_and_two o a b c d p q r h i) j
+
+-- a piece of three parts and another after a text, and a third unless there is an error
+pub parts_and_pair_ok : {T E : Type 0} (t : Result T E) (o a b c d e p q r : Words) → p ≡ o ++ (a ++ (b ++ c))
+    → q ≡ p ++ d → OnOk t (r ≡ q ++ e) → OnOk t (r ≡ o ++ (a ++ (b ++ (c ++ (d ++ e)))))
+parts_and_pair_ok t o a b c d e p q r h i j =
+    on_ok t (r ≡ q ++ e) (r ≡ o ++ (a ++ (b ++ (c ++ (d ++ e))))) (parts_and_pair o a b c d e p q r h i) j
+
+-- a piece of five parts after a text, and another unless there is an error
+pub five_and_one_ok : {T E : Type 0} (r : Result T E) (o a b c d e f p q : Words)
+    → p ≡ o ++ (a ++ (b ++ (c ++ (d ++ e)))) → OnOk r (q ≡ p ++ f)
+    → OnOk r (q ≡ o ++ (a ++ (b ++ (c ++ (d ++ (e ++ f))))))
+five_and_one_ok r o a b c d e f p q h i =
+    on_ok r (q ≡ p ++ f) (q ≡ o ++ (a ++ (b ++ (c ++ (d ++ (e ++ f))))))
+    (λ j. parts_and_one o a b (c ++ (d ++ e)) f p q h j ∙ ap (λ (x : Words). o ++ (a ++ (b ++ x)))
+    (append_assoc c (d ++ e) f ∙ ap (λ (x : Words). c ++ x) (append_assoc d e f))) i
+
 apart : true ≡ false → ⊥
 apart h = cc
 

@@ -3,6 +3,7 @@
 
 mod details;
 mod phrases;
+mod pieces;
 mod places;
 mod reasons;
 mod rules;

@@ -8,23 +8,10 @@ ghost use Rattle.pc_detail_texts.specs.Shown.{words, all_words, function_of_valu
 ghost use Rattle.pc_detail_texts.specs.Shown.{leaving_of_value};
 
 use crate::details::{Callable, FunctionName, Leaving, OperatorUse, Unsupported};
+use crate::pieces::{push_both, push_name, push_named, push_pair, push_text, push_three};
 use pc_source::OutOfMemory;
 use pc_tree::{BinaryOperator, ComparisonOperator};
 use std::rc::RcStr;
-
-/// Appends a text.
-pub(crate) fn push_text(text: &mut String, more: &str) -> Result<(), OutOfMemory>
-    ensures { OnOk result (string_bytes text.new ≡ string_bytes text.old ++ more.now) }
-{
-    Ok(text.push_str(more)?)
-}
-
-/// Appends two texts, one after the other.
-pub(crate) fn push_both(text: &mut String, first: &str, second: &str) -> Result<(), OutOfMemory>
-    ensures { OnOk result (string_bytes text.new ≡ string_bytes text.old ++ (first.now ++ second.now)) }
-{
-    Ok(write!(text, "{first}{second}")?)
-}
 
 /// Appends texts, each after a separator.
 fn push_each_after(text: &mut String, between: &str, parts: &[RcStr]) -> Result<(), OutOfMemory>
@@ -62,9 +49,36 @@ pub(crate) fn push_function(text: &mut String, function: &FunctionName) -> Resul
         ≡ string_bytes text.old ++ function_text (function_of_value function.now)) }
 {
     match &function.class {
-        None => Ok(text.push_str(&function.name)?),
-        Some(class) => Ok(write!(text, "{class}.{}", function.name)?),
+        None => push_name(text, &function.name),
+        Some(class) => push_pair(text, "", class, ".", &function.name),
     }
+}
+
+/// Appends the name of a function, and a text.
+pub(crate) fn push_function_and(
+    text: &mut String,
+    function: &FunctionName,
+    after: &str,
+) -> Result<(), OutOfMemory>
+    ensures { OnOk result (string_bytes text.new
+        ≡ string_bytes text.old ++ (function_text (function_of_value function.now) ++ after.now)) }
+{
+    push_function(text, function)?;
+    push_text(text, after)
+}
+
+/// Appends the name of a function, and another name after a text.
+pub(crate) fn push_function_then(
+    text: &mut String,
+    function: &FunctionName,
+    between: &str,
+    name: &RcStr,
+) -> Result<(), OutOfMemory>
+    ensures { OnOk result (string_bytes text.new ≡ string_bytes text.old
+        ++ (function_text (function_of_value function.now) ++ (between.now ++ words name.now))) }
+{
+    push_function(text, function)?;
+    push_named(text, between, name)
 }
 
 /// Appends the callee of a call.
@@ -74,11 +88,38 @@ pub(crate) fn push_callable(text: &mut String, callable: &Callable) -> Result<()
 {
     match callable {
         Callable::Function(function) => push_function(text, function),
-        Callable::Class(name) => Ok(text.push_str(name)?),
-        Callable::Builtin(name) => Ok(text.push_str(name)?),
-        Callable::Member(object, name) => Ok(write!(text, "{name} of {object}")?),
-        Callable::Value(ty) => Ok(write!(text, "a value of type {ty}")?),
+        Callable::Class(name) => push_name(text, name),
+        Callable::Builtin(name) => push_name(text, name),
+        Callable::Member(object, name) => push_pair(text, "", name, " of ", object),
+        Callable::Value(ty) => push_named(text, "a value of type ", ty),
     }
+}
+
+/// Appends the callee of a call, and a text.
+pub(crate) fn push_callable_and(
+    text: &mut String,
+    callable: &Callable,
+    after: &str,
+) -> Result<(), OutOfMemory>
+    ensures { OnOk result (string_bytes text.new
+        ≡ string_bytes text.old ++ (callable_text (callable_of_value callable.now) ++ after.now)) }
+{
+    push_callable(text, callable)?;
+    push_text(text, after)
+}
+
+/// Appends the callee of a call, and a name after a text.
+pub(crate) fn push_callable_then(
+    text: &mut String,
+    callable: &Callable,
+    between: &str,
+    name: &RcStr,
+) -> Result<(), OutOfMemory>
+    ensures { OnOk result (string_bytes text.new ≡ string_bytes text.old
+        ++ (callable_text (callable_of_value callable.now) ++ (between.now ++ words name.now))) }
+{
+    push_callable(text, callable)?;
+    push_named(text, between, name)
 }
 
 /// Returns the number of open brackets after a byte.
@@ -114,23 +155,23 @@ fn push_operand(text: &mut String, ty: &str) -> Result<(), OutOfMemory>
     ensures { OnOk result (string_bytes text.new ≡ string_bytes text.old ++ operand_text ty.now) }
 {
     if is_union(ty) {
-        return Ok(write!(text, "({ty})")?);
+        return push_three(text, "(", ty, ")");
     }
-    Ok(text.push_str(ty)?)
+    push_text(text, ty)
 }
 
 /// Appends a sign between the types of its operands.
 pub(crate) fn push_between(
     text: &mut String,
-    left: &str,
+    left: &RcStr,
     sign: &str,
-    right: &str,
+    right: &RcStr,
 ) -> Result<(), OutOfMemory>
     ensures { OnOk result (string_bytes text.new
-        ≡ string_bytes text.old ++ between_text left.now sign.now right.now) }
+        ≡ string_bytes text.old ++ between_text (words left.now) sign.now (words right.now)) }
 {
     push_operand(text, left)?;
-    write!(text, " {sign} ")?;
+    push_three(text, " ", sign, " ")?;
     push_operand(text, right)
 }
 
@@ -176,7 +217,7 @@ pub(crate) fn push_operator(text: &mut String, operator: &OperatorUse) -> Result
             push_between(text, left, comparison_sign(*sign), right)
         }
         OperatorUse::Minus(operand) => {
-            text.push_str("-")?;
+            push_text(text, "-")?;
             push_operand(text, operand)
         }
     }
@@ -187,10 +228,10 @@ pub(crate) fn push_counted(text: &mut String, number: usize, thing: &str) -> Res
     ensures { OnOk result (string_bytes text.new ≡ string_bytes text.old ++ counted number thing.now) }
 {
     if number == 0 {
-        return Ok(write!(text, "no {thing}s")?);
+        return push_three(text, "no ", thing, "s");
     }
     if number == 1 {
-        return Ok(write!(text, "1 {thing}")?);
+        return push_both(text, "1 ", thing);
     }
     Ok(write!(text, "{number} {thing}s")?)
 }

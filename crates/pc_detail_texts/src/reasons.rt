@@ -14,82 +14,116 @@ use crate::details::{
     AnnotationFault, Callable, Counts, Flow, FunctionName, Holder, MemberName, Misfit,
     OverrideFault, Sink,
 };
-use crate::phrases::{push_both, push_callable, push_counted, push_function, push_joined};
+use crate::phrases::{
+    push_callable, push_callable_and, push_callable_then, push_counted, push_function,
+    push_function_and, push_function_then, push_joined,
+};
+use crate::pieces::{
+    push_around, push_both, push_name, push_named, push_number, push_number_around, push_pair,
+    push_pair_around, push_text,
+};
 use pc_source::OutOfMemory;
 use std::rc::RcStr;
 
 /// Appends a field with its type and its class.
-fn push_field(text: &mut String, into: &str, field: &MemberName) -> Result<(), OutOfMemory>
+fn push_field(text: &mut String, into: &RcStr, field: &MemberName) -> Result<(), OutOfMemory>
     ensures { OnOk result (string_bytes text.new ≡ string_bytes text.old
-        ++ (codes "field " ++ typed_of (words field.now.name) into.now (words field.now.class))) }
+        ++ (codes "field " ++ typed_of (words field.now.name) (words into.now) (words field.now.class))) }
 {
     Ok(write!(text, "field {}: {into} of {}", field.name, field.class)?)
 }
 
 /// Appends a thing with its name and its type.
-fn push_typed(text: &mut String, thing: &str, name: &str, into: &str) -> Result<(), OutOfMemory>
-    ensures { OnOk result (string_bytes text.new ≡ string_bytes text.old ++ (thing.now ++ typed_text name.now into.now)) }
+fn push_typed(text: &mut String, thing: &str, name: &RcStr, into: &RcStr) -> Result<(), OutOfMemory>
+    ensures { OnOk result (string_bytes text.new
+        ≡ string_bytes text.old ++ (thing.now ++ typed_text (words name.now) (words into.now))) }
 {
-    Ok(write!(text, "{thing}{name}: {into}")?)
+    push_pair(text, thing, name, ": ", into)
 }
 
 /// Appends a parameter with its type, up to its owner.
-fn push_parameter(text: &mut String, name: &str, into: &str) -> Result<(), OutOfMemory>
+fn push_parameter(text: &mut String, name: &RcStr, into: &RcStr) -> Result<(), OutOfMemory>
     ensures { OnOk result (string_bytes text.new ≡ string_bytes text.old
-        ++ (codes "parameter " ++ (typed_text name.now into.now ++ codes " of "))) }
+        ++ (codes "parameter " ++ (words name.now ++ (codes ": " ++ (words into.now ++ codes " of "))))) }
 {
-    Ok(write!(text, "parameter {name}: {into} of ")?)
+    push_pair_around(text, "parameter ", name, ": ", into, " of ")
+}
+
+/// Appends a parameter of a callee, with its type.
+fn push_parameter_of(
+    text: &mut String,
+    name: &RcStr,
+    into: &RcStr,
+    callable: &Callable,
+) -> Result<(), OutOfMemory>
+    ensures { OnOk result (string_bytes text.new ≡ string_bytes text.old ++ (codes "parameter "
+        ++ typed_of (words name.now) (words into.now) (callable_text (callable_of_value callable.now)))) }
+{
+    push_parameter(text, name, into)?;
+    push_callable(text, callable)
+}
+
+/// Appends a parameter of a function, with its type.
+fn push_default_of(
+    text: &mut String,
+    name: &RcStr,
+    into: &RcStr,
+    function: &FunctionName,
+) -> Result<(), OutOfMemory>
+    ensures { OnOk result (string_bytes text.new ≡ string_bytes text.old ++ (codes "parameter "
+        ++ typed_of (words name.now) (words into.now) (function_text (function_of_value function.now)))) }
+{
+    push_parameter(text, name, into)?;
+    push_function(text, function)
 }
 
 /// Appends a place that keeps a value of this type.
-fn push_holder(text: &mut String, into: &str, holder: &Holder) -> Result<(), OutOfMemory>
+fn push_holder(text: &mut String, into: &RcStr, holder: &Holder) -> Result<(), OutOfMemory>
     ensures { OnOk result (string_bytes text.new
-        ≡ string_bytes text.old ++ sink_text into.now (holder_of_value holder.now)) }
+        ≡ string_bytes text.old ++ sink_text (words into.now) (holder_of_value holder.now)) }
 {
     match holder {
-        Holder::Parameter(name, callable) => {
-            push_parameter(text, name, into)?;
-            push_callable(text, callable)
-        }
+        Holder::Parameter(name, callable) => push_parameter_of(text, name, into, callable),
         Holder::Field(member) => push_field(text, into, member),
         Holder::Local(name) => push_typed(text, "local ", name, into),
-        Holder::LoopTarget(name) => Ok(write!(text, "loop variable {name}: {into}")?),
+        Holder::LoopTarget(name) => push_typed(text, "loop variable ", name, into),
         Holder::Constant(name) => push_typed(text, "constant ", name, into),
-        Holder::ParameterDefault(name, function) => {
-            push_parameter(text, name, into)?;
-            push_function(text, function)
-        }
+        Holder::ParameterDefault(name, function) => push_default_of(text, name, into, function),
         Holder::FieldDefault(member) => push_field(text, into, member),
-        Holder::Item(object) => push_both(text, "an item of ", object),
-        Holder::Key(object) => push_both(text, "a key of ", object),
-        Holder::Value(object) => push_both(text, "a value of ", object),
-        Holder::Index(object) => Ok(write!(text, "an index of {object}")?),
+        Holder::Item(object) => push_named(text, "an item of ", object),
+        Holder::Key(object) => push_named(text, "a key of ", object),
+        Holder::Value(object) => push_named(text, "a value of ", object),
+        Holder::Index(object) => push_named(text, "an index of ", object),
     }
 }
 
 /// Appends the argument of a callee that takes arguments by position only, with its type.
-fn push_argument(text: &mut String, into: &str, callable: &Callable) -> Result<(), OutOfMemory>
+fn push_argument(text: &mut String, into: &RcStr, callable: &Callable) -> Result<(), OutOfMemory>
     ensures { OnOk result (string_bytes text.new ≡ string_bytes text.old
-        ++ (codes "the argument of " ++ typed_text (callable_text (callable_of_value callable.now)) into.now)) }
+        ++ (codes "the argument of " ++ typed_text (callable_text (callable_of_value callable.now)) (words into.now))) }
 {
-    text.push_str("the argument of ")?;
-    push_callable(text, callable)?;
-    Ok(write!(text, ": {into}")?)
+    push_text(text, "the argument of ")?;
+    push_callable_then(text, callable, ": ", into)
+}
+
+/// Appends the return of a function, with its type.
+fn push_return(text: &mut String, into: &RcStr, function: &FunctionName) -> Result<(), OutOfMemory>
+    ensures { OnOk result (string_bytes text.new ≡ string_bytes text.old
+        ++ (codes "the return of " ++ typed_text (function_text (function_of_value function.now)) (words into.now))) }
+{
+    push_text(text, "the return of ")?;
+    push_function_then(text, function, ": ", into)
 }
 
 /// Appends the place where a value of this type goes.
-pub(crate) fn push_sink(text: &mut String, into: &str, sink: &Sink) -> Result<(), OutOfMemory>
+pub(crate) fn push_sink(text: &mut String, into: &RcStr, sink: &Sink) -> Result<(), OutOfMemory>
     ensures { OnOk result (string_bytes text.new
-        ≡ string_bytes text.old ++ sink_text into.now (sink_of_value sink.now)) }
+        ≡ string_bytes text.old ++ sink_text (words into.now) (sink_of_value sink.now)) }
 {
     match sink {
         Sink::Argument(callable) => push_argument(text, into, callable),
-        Sink::Return(function) => {
-            text.push_str("the return of ")?;
-            push_function(text, function)?;
-            Ok(write!(text, ": {into}")?)
-        }
-        Sink::Sought(object) => push_both(text, "an item of ", object),
+        Sink::Return(function) => push_return(text, into, function),
+        Sink::Sought(object) => push_named(text, "an item of ", object),
         Sink::Holder(holder) => push_holder(text, into, holder),
     }
 }
@@ -126,9 +160,9 @@ fn words_around(sink: &Sink) -> (&'static str, &'static str)
 }
 
 /// Appends the beginning of the sentence of a flow: the verb and the type of the value, up to the sink.
-fn push_lead(text: &mut String, from: &str, sink: &Sink) -> Result<(), OutOfMemory>
+fn push_lead(text: &mut String, from: &RcStr, sink: &Sink) -> Result<(), OutOfMemory>
     ensures { OnOk result (string_bytes text.new
-        ≡ string_bytes text.old ++ flow_lead from.now (sink_of_value sink.now)) }
+        ≡ string_bytes text.old ++ flow_lead (words from.now) (sink_of_value sink.now)) }
 {
     let (verb, word) = words_around(sink);
     Ok(write!(text, "{verb} {from} {word} ")?)
@@ -136,29 +170,24 @@ fn push_lead(text: &mut String, from: &str, sink: &Sink) -> Result<(), OutOfMemo
 
 /// Appends the end of the sentence of a flow: the sink.
 #[tactic(auto, using(crate::proofs::Cases::holder_ends))]
-fn push_end(text: &mut String, into: &str, sink: &Sink) -> Result<(), OutOfMemory>
+fn push_end(text: &mut String, into: &RcStr, sink: &Sink) -> Result<(), OutOfMemory>
     ensures { OnOk result (string_bytes text.new
-        ≡ string_bytes text.old ++ flow_end into.now (sink_of_value sink.now)) }
+        ≡ string_bytes text.old ++ flow_end (words into.now) (sink_of_value sink.now)) }
 {
     match sink {
-        Sink::Argument(callable) => {
-            push_callable(text, callable)?;
-            Ok(write!(text, ", which takes {into}")?)
-        }
-        Sink::Return(function) => {
-            push_function(text, function)?;
-            Ok(write!(text, ", which returns {into}")?)
-        }
-        Sink::Sought(object) => Ok(text.push_str(object)?),
+        Sink::Argument(callable) => push_callable_then(text, callable, ", which takes ", into),
+        Sink::Return(function) => push_function_then(text, function, ", which returns ", into),
+        Sink::Sought(object) => push_name(text, object),
         Sink::Holder(holder) => push_holder(text, into, holder),
     }
 }
 
-/// Appends that a value of one type cannot go where another type is expected, after `cannot`.
+/// Appends that a value of one type cannot go where another type is expected.
 pub(crate) fn push_flow(text: &mut String, flow: &Flow) -> Result<(), OutOfMemory>
-    ensures { OnOk result (string_bytes text.new ≡ string_bytes text.old
-        ++ flow_sentence (words flow.now.from) (words flow.now.into) (sink_of_value flow.now.sink)) }
+    ensures { OnOk result (string_bytes text.new ≡ string_bytes text.old ++ (codes "cannot "
+        ++ flow_sentence (words flow.now.from) (words flow.now.into) (sink_of_value flow.now.sink))) }
 {
+    push_text(text, "cannot ")?;
     push_lead(text, &flow.from, &flow.sink)?;
     push_end(text, &flow.into, &flow.sink)
 }
@@ -174,9 +203,9 @@ fn push_counts(
         ++ count_text (callable_text (callable_of_value callable.now)) bound.now counts.takes counts.given) }
 {
     push_callable(text, callable)?;
-    write!(text, " takes {bound}")?;
+    push_both(text, " takes ", bound)?;
     push_counted(text, counts.takes, "argument")?;
-    Ok(write!(text, " by position and is given {}", counts.given)?)
+    push_number(text, " by position and is given ", counts.given)
 }
 
 /// Returns the words that say that fewer arguments may be given, if any are taken.
@@ -204,7 +233,7 @@ fn push_others(text: &mut String, others: usize) -> Result<(), OutOfMemory>
     if others == 0 {
         return Ok(());
     }
-    Ok(write!(text, " and {others} more")?)
+    push_number_around(text, " and ", others, " more")
 }
 
 /// Appends the names of parameters without an argument, and their owner.
@@ -225,12 +254,11 @@ fn push_missing(
 }
 
 /// Appends that a parameter is given twice.
-fn push_given_twice(text: &mut String, callable: &Callable, name: &str) -> Result<(), OutOfMemory>
+fn push_given_twice(text: &mut String, callable: &Callable, name: &RcStr) -> Result<(), OutOfMemory>
     ensures { OnOk result (string_bytes text.new ≡ string_bytes text.old
-        ++ misfit_text (callable_text (callable_of_value callable.now)) (given_twice name.now)) }
+        ++ misfit_text (callable_text (callable_of_value callable.now)) (given_twice (words name.now))) }
 {
-    text.push_str("two arguments for parameter ")?;
-    write!(text, "{name} of ")?;
+    push_around(text, "two arguments for parameter ", name, " of ")?;
     push_callable(text, callable)
 }
 
@@ -246,31 +274,22 @@ pub(crate) fn push_misfit(
     match misfit {
         Misfit::TooMany(counts) => push_counts(text, callable, at_most(counts.takes), *counts),
         Misfit::TooFew(counts) => push_counts(text, callable, "", *counts),
-        Misfit::ByPositionOnly => {
-            push_callable(text, callable)?;
-            Ok(text.push_str(" takes no arguments by name")?)
-        }
-        Misfit::NoParameter(name) => {
-            push_callable(text, callable)?;
-            Ok(write!(text, " has no parameter {name}")?)
-        }
+        Misfit::ByPositionOnly => push_callable_and(text, callable, " takes no arguments by name"),
+        Misfit::NoParameter(name) => push_callable_then(text, callable, " has no parameter ", name),
         Misfit::GivenTwice(name) => push_given_twice(text, callable, name),
         Misfit::Missing(names, others) => push_missing(text, callable, names, *others),
-        Misfit::NotCallable => {
-            push_callable(text, callable)?;
-            Ok(text.push_str(" cannot be called")?)
-        }
+        Misfit::NotCallable => push_callable_and(text, callable, " cannot be called"),
     }
 }
 
 /// Appends that another number of types is taken than is given.
-fn push_types_taken(text: &mut String, name: &str, counts: Counts) -> Result<(), OutOfMemory>
+fn push_types_taken(text: &mut String, name: &RcStr, counts: Counts) -> Result<(), OutOfMemory>
     ensures { OnOk result (string_bytes text.new ≡ string_bytes text.old
-        ++ annotation_text (takes_types name.now counts.takes counts.given)) }
+        ++ annotation_text (takes_types (words name.now) counts.takes counts.given)) }
 {
-    write!(text, "{name} takes ")?;
+    push_around(text, "", name, " takes ")?;
     push_counted(text, counts.takes, "type")?;
-    Ok(write!(text, " and is given {}", counts.given)?)
+    push_number(text, " and is given ", counts.given)
 }
 
 /// Appends the reason why an annotation is not a type.
@@ -279,19 +298,19 @@ pub(crate) fn push_annotation(text: &mut String, fault: &AnnotationFault) -> Res
         ≡ string_bytes text.old ++ annotation_text (annotation_of_value fault.now)) }
 {
     match fault {
-        AnnotationFault::UnknownType(name) => Ok(write!(text, "no class is named {name}")?),
-        AnnotationFault::NoType(name, _) => Ok(write!(text, "{name} is no class")?),
-        AnnotationFault::ReservedNoType(name) => Ok(write!(text, "{name} is no type")?),
-        AnnotationFault::AnyNotImported => Ok(text.push_str("Any is not imported")?),
+        AnnotationFault::UnknownType(name) => push_named(text, "no class is named ", name),
+        AnnotationFault::NoType(name, _) => push_around(text, "", name, " is no class"),
+        AnnotationFault::ReservedNoType(name) => push_around(text, "", name, " is no type"),
+        AnnotationFault::AnyNotImported => push_text(text, "Any is not imported"),
         AnnotationFault::Bare(name) => {
-            Ok(write!(text, "{name} needs the types of what it holds")?)
+            push_around(text, "", name, " needs the types of what it holds")
         }
         AnnotationFault::TakesTypes(name, counts) => push_types_taken(text, name, *counts),
         AnnotationFault::TakesNone(name) => {
-            Ok(write!(text, "{name} takes no types in brackets")?)
+            push_around(text, "", name, " takes no types in brackets")
         }
         AnnotationFault::KeyType(ty) => {
-            Ok(write!(text, "a key of a dict must be int or str, not {ty}")?)
+            push_named(text, "a key of a dict must be int or str, not ", ty)
         }
     }
 }
@@ -306,10 +325,25 @@ fn push_other_count(
     ensures { OnOk result (string_bytes text.new ≡ string_bytes text.old
         ++ override_text (function_text (function_of_value method.now)) (other_count above here)) }
 {
-    push_function(text, method)?;
-    text.push_str(" has ")?;
+    push_function_and(text, method, " has ")?;
     push_counted(text, above, "parameter")?;
-    Ok(write!(text, ", not {here}")?)
+    push_number(text, ", not ", here)
+}
+
+/// Appends a method above, and what it has in place of something of the method here.
+fn push_differs(
+    text: &mut String,
+    above: &FunctionName,
+    verb: &str,
+    theirs: &RcStr,
+    ours: &RcStr,
+) -> Result<(), OutOfMemory>
+    ensures { OnOk result (string_bytes text.new ≡ string_bytes text.old
+        ++ (function_text (function_of_value above.now)
+        ++ (verb.now ++ (words theirs.now ++ (codes ", not " ++ words ours.now))))) }
+{
+    push_function(text, above)?;
+    push_pair(text, verb, theirs, ", not ", ours)
 }
 
 /// Appends the part in which a method differs from the one above.
@@ -324,23 +358,19 @@ pub(crate) fn push_override(
     match fault {
         OverrideFault::OtherCount(theirs, ours) => push_other_count(text, above, *theirs, *ours),
         OverrideFault::OtherName(position, theirs, ours) => {
-            write!(text, "parameter {position} of ")?;
-            push_function(text, above)?;
-            Ok(write!(text, " is named {theirs}, not {ours}")?)
+            push_number_around(text, "parameter ", *position, " of ")?;
+            push_differs(text, above, " is named ", theirs, ours)
         }
         OverrideFault::NoDefault(name) => {
-            write!(text, "parameter {name} of ")?;
-            push_function(text, above)?;
-            Ok(text.push_str(" has a default")?)
+            push_around(text, "parameter ", name, " of ")?;
+            push_function_and(text, above, " has a default")
         }
         OverrideFault::OtherReturn(types) => {
-            push_function(text, above)?;
-            Ok(write!(text, " returns {}, not {}", types.above, types.here)?)
+            push_differs(text, above, " returns ", &types.above, &types.here)
         }
         OverrideFault::OtherParameter(name, types) => {
-            write!(text, "parameter {name} of ")?;
-            push_function(text, above)?;
-            Ok(write!(text, " takes {}, not {}", types.above, types.here)?)
+            push_around(text, "parameter ", name, " of ")?;
+            push_differs(text, above, " takes ", &types.above, &types.here)
         }
     }
 }

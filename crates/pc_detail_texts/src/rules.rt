@@ -2,7 +2,7 @@
 
 ghost use Rattle.std.specs.Prelude.{◌≡◌, ◌++◌, OnOk, string_bytes, codes};
 ghost use Rattle.std.specs.Option.{option_map};
-ghost use Rattle.pc_detail_texts.specs.Details.{not_a_value, means_method, no_return, keys, method_store, no_test, unknown_name, early};
+ghost use Rattle.pc_detail_texts.specs.Details.{not_a_value, keys, no_test, unknown_name, early};
 ghost use Rattle.pc_detail_texts.specs.Details.{base, field_order, union, default_order};
 ghost use Rattle.pc_detail_texts.specs.Sentences.{function_text, elsewhere_text, earlier_text, error_sentence, no_main_text};
 ghost use Rattle.pc_detail_texts.specs.Shown.{words, all_words, function_of_value, no_value_of_value, elsewhere_of_value};
@@ -13,19 +13,21 @@ ghost use Rattle.pc_source.specs.declared.place.Place.{Place};
 use crate::details::{
     Clash, Earlier, Early, Elsewhere, FunctionName, LateDefault, NoMain, NoValue, RuleFault,
 };
-use crate::phrases::{leaving_words, push_function, push_joined};
+use crate::phrases::{leaving_words, push_function_and, push_function_then, push_joined};
+use crate::pieces::{
+    push_around, push_both, push_named, push_number_around, push_pair, push_pair_around, push_text,
+};
 use crate::reasons::push_annotation;
 use pc_source::{OutOfMemory, Place};
 use std::rc::RcStr;
 
-/// Appends that a method is no value.
-fn push_no_method(text: &mut String, method: &FunctionName) -> Result<(), OutOfMemory>
-    ensures { OnOk result (string_bytes text.new
-        ≡ string_bytes text.old ++ error_sentence (not_a_value (means_method (function_of_value method.now)))) }
+/// Appends a method, and what is said of it.
+fn push_method(text: &mut String, method: &FunctionName, after: &str) -> Result<(), OutOfMemory>
+    ensures { OnOk result (string_bytes text.new ≡ string_bytes text.old
+        ++ (codes "method " ++ (function_text (function_of_value method.now) ++ after.now))) }
 {
-    text.push_str("method ")?;
-    push_function(text, method)?;
-    Ok(text.push_str(" is no value")?)
+    push_text(text, "method ")?;
+    push_function_and(text, method, after)
 }
 
 /// Appends the meaning of a name that is not a value.
@@ -34,24 +36,11 @@ fn push_no_value(text: &mut String, meaning: &NoValue) -> Result<(), OutOfMemory
         ≡ string_bytes text.old ++ error_sentence (not_a_value (no_value_of_value meaning.now))) }
 {
     match meaning {
-        NoValue::Function(name) => Ok(write!(text, "function {name} is no value")?),
-        NoValue::Class(name) => Ok(write!(text, "class {name} is no value")?),
-        NoValue::Reserved(name) => Ok(write!(text, "the reserved name {name} is no value")?),
-        NoValue::Method(method) => push_no_method(text, method),
+        NoValue::Function(name) => push_around(text, "function ", name, " is no value"),
+        NoValue::Class(name) => push_around(text, "class ", name, " is no value"),
+        NoValue::Reserved(name) => push_around(text, "the reserved name ", name, " is no value"),
+        NoValue::Method(method) => push_method(text, method, " is no value"),
     }
-}
-
-/// Appends that a function may end without the value that it promises.
-fn push_no_return(
-    text: &mut String,
-    function: &FunctionName,
-    promised: &str,
-) -> Result<(), OutOfMemory>
-    ensures { OnOk result (string_bytes text.new
-        ≡ string_bytes text.old ++ error_sentence (no_return (function_of_value function.now) promised.now)) }
-{
-    push_function(text, function)?;
-    Ok(write!(text, " may end without returning {promised}")?)
 }
 
 /// Appends what is wrong with the keys of a dict.
@@ -60,21 +49,11 @@ fn push_keys(text: &mut String, types: &[RcStr]) -> Result<(), OutOfMemory>
         ≡ string_bytes text.old ++ error_sentence (keys (all_words types.now))) }
 {
     if types.is_empty() {
-        return Ok(text.push_str("the type of an empty dict is not known here")?);
+        return push_text(text, "the type of an empty dict is not known here");
     }
-    text.push_str("the keys are ")?;
+    push_text(text, "the keys are ")?;
     push_joined(text, ", ", types)?;
-    Ok(text.push_str(", not all int or all str")?)
-}
-
-/// Appends that a method is assigned to.
-fn push_method_store(text: &mut String, method: &FunctionName) -> Result<(), OutOfMemory>
-    ensures { OnOk result (string_bytes text.new
-        ≡ string_bytes text.old ++ error_sentence (method_store (function_of_value method.now))) }
-{
-    text.push_str("method ")?;
-    push_function(text, method)?;
-    Ok(text.push_str(" cannot be assigned")?)
+    push_text(text, ", not all int or all str")
 }
 
 /// Appends what `isinstance` cannot test for.
@@ -84,9 +63,12 @@ fn push_no_test(text: &mut String, name: &Option<RcStr>) -> Result<(), OutOfMemo
 {
     match name {
         None => {
-            Ok(text.push_str("isinstance can test for int, str, bool, list or a class alone")?)
+            push_text(
+                text,
+                "isinstance can test for int, str, bool, list or a class alone",
+            )
         }
-        Some(name) => Ok(write!(text, "isinstance cannot test for {name}")?),
+        Some(name) => push_named(text, "isinstance cannot test for ", name),
     }
 }
 
@@ -103,34 +85,38 @@ fn earlier_words(earlier: Earlier) -> &'static str
 }
 
 /// Appends that another function binds a name.
-fn push_local_of(text: &mut String, name: &str, function: &FunctionName) -> Result<(), OutOfMemory>
+fn push_local_of(
+    text: &mut String,
+    name: &RcStr,
+    function: &FunctionName,
+) -> Result<(), OutOfMemory>
     ensures { OnOk result (string_bytes text.new ≡ string_bytes text.old
-        ++ (codes ", but " ++ (function_text (function_of_value function.now) ++ (codes " has a local " ++ name.now)))) }
+        ++ (codes ", but " ++ (function_text (function_of_value function.now)
+        ++ (codes " has a local " ++ words name.now)))) }
 {
-    text.push_str(", but ")?;
-    push_function(text, function)?;
-    Ok(write!(text, " has a local {name}")?)
+    push_text(text, ", but ")?;
+    push_function_then(text, function, " has a local ", name)
 }
 
 /// Appends the place where an unknown name is bound elsewhere.
-fn push_elsewhere(text: &mut String, name: &str, elsewhere: &Elsewhere) -> Result<(), OutOfMemory>
+fn push_elsewhere(text: &mut String, name: &RcStr, elsewhere: &Elsewhere) -> Result<(), OutOfMemory>
     ensures { OnOk result (string_bytes text.new
-        ≡ string_bytes text.old ++ elsewhere_text name.now (elsewhere_of_value elsewhere.now)) }
+        ≡ string_bytes text.old ++ elsewhere_text (words name.now) (elsewhere_of_value elsewhere.now)) }
 {
     match elsewhere {
         Elsewhere::Nowhere => Ok(()),
-        Elsewhere::InClass(class) => Ok(write!(text, ", but {class} has a member {name}")?),
+        Elsewhere::InClass(class) => push_pair(text, ", but ", class, " has a member ", name),
         Elsewhere::InFunction(function, _) => push_local_of(text, name, function),
-        Elsewhere::NotImported => Ok(text.push_str(", since no header imports it")?),
+        Elsewhere::NotImported => push_text(text, ", since no header imports it"),
     }
 }
 
 /// Appends that a name means nothing, and where else it is bound.
-fn push_unknown(text: &mut String, name: &str, elsewhere: &Elsewhere) -> Result<(), OutOfMemory>
-    ensures { OnOk result (string_bytes text.new
-        ≡ string_bytes text.old ++ error_sentence (unknown_name name.now (elsewhere_of_value elsewhere.now))) }
+fn push_unknown(text: &mut String, name: &RcStr, elsewhere: &Elsewhere) -> Result<(), OutOfMemory>
+    ensures { OnOk result (string_bytes text.new ≡ string_bytes text.old
+        ++ error_sentence (unknown_name (words name.now) (elsewhere_of_value elsewhere.now))) }
 {
-    write!(text, "nothing named {name} is known here")?;
+    push_around(text, "nothing named ", name, " is known here")?;
     push_elsewhere(text, name, elsewhere)
 }
 
@@ -140,30 +126,30 @@ fn push_early(text: &mut String, cause: &Early) -> Result<(), OutOfMemory>
         ≡ string_bytes text.old ++ error_sentence (early (early_of_value cause.now))) }
 {
     match cause {
-        Early::Function(name) => Ok(write!(text, "a constant cannot use function {name}")?),
-        Early::Name(name, _) => Ok(write!(text, "{name} is not defined yet")?),
-        Early::Callee => Ok(text.push_str("a constant cannot call a method or a value")?),
+        Early::Function(name) => push_named(text, "a constant cannot use function ", name),
+        Early::Name(name, _) => push_around(text, "", name, " is not defined yet"),
+        Early::Callee => push_text(text, "a constant cannot call a method or a value"),
     }
 }
 
 /// Appends that a base is no class, or none yet.
-fn push_base(text: &mut String, name: &str, later: Option<Place>) -> Result<(), OutOfMemory>
+fn push_base(text: &mut String, name: &RcStr, later: Option<Place>) -> Result<(), OutOfMemory>
     ensures { OnOk result (string_bytes text.new
-        ≡ string_bytes text.old ++ error_sentence (base name.now later)) }
+        ≡ string_bytes text.old ++ error_sentence (base (words name.now) later)) }
 {
     match later {
-        None => Ok(write!(text, "{name} is no class")?),
-        Some(_) => Ok(write!(text, "class {name} is not defined yet")?),
+        None => push_around(text, "", name, " is no class"),
+        Some(_) => push_around(text, "class ", name, " is not defined yet"),
     }
 }
 
 /// Appends that a field without a default comes after one with a default.
-fn push_field_order(text: &mut String, late: &LateDefault, class: &str) -> Result<(), OutOfMemory>
+fn push_field_order(text: &mut String, late: &LateDefault, class: &RcStr) -> Result<(), OutOfMemory>
     ensures { OnOk result (string_bytes text.new ≡ string_bytes text.old ++ error_sentence
-        (field_order (words late.now.name) class.now (words late.now.before) late.now.at)) }
+        (field_order (words late.now.name) (words class.now) (words late.now.before) late.now.at)) }
 {
-    write!(text, "field {} has no default, but field ", late.name)?;
-    Ok(write!(text, "{} of {class} before it has one", late.before)?)
+    push_around(text, "field ", &late.name, " has no default, but field ")?;
+    push_pair_around(text, "", &late.before, " of ", class, " before it has one")
 }
 
 /// Appends that a parameter without a default comes after one with a default.
@@ -171,12 +157,15 @@ fn push_default_order(text: &mut String, late: &LateDefault) -> Result<(), OutOf
     ensures { OnOk result (string_bytes text.new ≡ string_bytes text.old ++ error_sentence
         (default_order (words late.now.name) (words late.now.before) late.now.at)) }
 {
-    write!(
+    let between = " has no default, but parameter ";
+    push_pair_around(
         text,
-        "parameter {} has no default, but parameter ",
-        late.name
-    )?;
-    Ok(write!(text, "{} before it has one", late.before)?)
+        "parameter ",
+        &late.name,
+        between,
+        &late.before,
+        " before it has one",
+    )
 }
 
 /// Appends the reason why parts do not make a union.
@@ -185,9 +174,9 @@ fn push_clash(text: &mut String, clash: &Clash) -> Result<(), OutOfMemory>
         ≡ string_bytes text.old ++ error_sentence (union (clash_of_value clash.now))) }
 {
     match clash {
-        Clash::NoMember(ty) => Ok(write!(text, "{ty} cannot be in a union")?),
+        Clash::NoMember(ty) => push_around(text, "", ty, " cannot be in a union"),
         Clash::Two(first, second) => {
-            Ok(write!(text, "{first} and {second} cannot be in one union")?)
+            push_pair_around(text, "", first, " and ", second, " cannot be in one union")
         }
     }
 }
@@ -210,40 +199,39 @@ pub(crate) fn push_rule_fault(text: &mut String, fault: &RuleFault) -> Result<()
 {
     match fault {
         RuleFault::NotAValue(meaning) => push_no_value(text, meaning),
-        RuleFault::NoReturn(function, promised) => push_no_return(text, function, promised),
+        RuleFault::NoReturn(function, promised) => {
+            push_function_then(text, function, " may end without returning ", promised)
+        }
         RuleFault::Keys(keys) => push_keys(text, keys),
-        RuleFault::MethodStore(method) => push_method_store(text, method),
+        RuleFault::MethodStore(method) => push_method(text, method, " cannot be assigned"),
         RuleFault::NoTest(name) => push_no_test(text, name),
-        RuleFault::Size(n) => Ok(write!(
+        RuleFault::Size(n) => push_number_around(
             text,
-            "the type has {n} nodes, and at most 256 are allowed"
-        )?),
-        RuleFault::RangeElsewhere => Ok(text.push_str("range can only be looped over")?),
-        RuleFault::Twice(name, earlier) => Ok(write!(text, "{name}{}", earlier_words(*earlier))?),
+            "the type has ",
+            *n,
+            " nodes, and at most 256 are allowed",
+        ),
+        RuleFault::RangeElsewhere => push_text(text, "range can only be looped over"),
+        RuleFault::Twice(name, earlier) => push_around(text, "", name, earlier_words(*earlier)),
         RuleFault::UnknownName(name, elsewhere) => push_unknown(text, name, elsewhere),
         RuleFault::Early(early) => push_early(text, early),
-        RuleFault::Unassigned(name, _) => Ok(write!(text, "{name} may have no value yet")?),
-        RuleFault::OutsideLoop(word) => Ok(write!(
-            text,
-            "{} is outside a loop",
-            leaving_words(*word)
-        )?),
-        RuleFault::Member(m, _) => Ok(write!(text, "{} already has a member {}", m.class, m.name)?),
+        RuleFault::Unassigned(name, _) => push_around(text, "", name, " may have no value yet"),
+        RuleFault::OutsideLoop(word) => {
+            push_both(text, leaving_words(*word), " is outside a loop")
+        }
+        RuleFault::Member(m, _) => push_pair(text, "", &m.class, " already has a member ", &m.name),
         RuleFault::Base(name, later) => push_base(text, name, *later),
         RuleFault::FieldOrder(late, class) => push_field_order(text, late, class),
         RuleFault::Annotation(fault) => push_annotation(text, fault),
         RuleFault::Union(clash) => push_clash(text, clash),
-        RuleFault::LateAnnotation(name, _) => Ok(write!(
-            text,
-            "{name} is already bound when it is annotated"
-        )?),
-        RuleFault::Main(why) => Ok(text.push_str(main_words(*why))?),
-        RuleFault::Reserved(name) => Ok(write!(text, "{name} is a reserved name")?),
-        RuleFault::Unreachable(word, _) => Ok(write!(
-            text,
-            "nothing is reached after {}",
-            leaving_words(*word)
-        )?),
+        RuleFault::LateAnnotation(name, _) => {
+            push_around(text, "", name, " is already bound when it is annotated")
+        }
+        RuleFault::Main(why) => push_text(text, main_words(*why)),
+        RuleFault::Reserved(name) => push_around(text, "", name, " is a reserved name"),
+        RuleFault::Unreachable(word, _) => {
+            push_both(text, "nothing is reached after ", leaving_words(*word))
+        }
         RuleFault::DefaultOrder(late) => push_default_order(text, late),
     }
 }

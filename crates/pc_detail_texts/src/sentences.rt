@@ -4,28 +4,32 @@ ghost use Rattle.std.specs.Prelude.{◌≡◌, ◌++◌, OnOk, string_bytes, cod
 ghost use Rattle.pc_detail_texts.specs.Details.{attribute, contain};
 ghost use Rattle.pc_detail_texts.specs.Sentences.{function_text, callable_text, between_text, operation_text, hint_text};
 ghost use Rattle.pc_detail_texts.specs.Sentences.{where_it_is, override_text, error_sentence, doubt, sentence_of};
+ghost use Rattle.pc_detail_texts.specs.Sentences.{sink_text};
+ghost use Rattle.pc_detail_texts.specs.Shown.{sink_of_value};
 ghost use Rattle.pc_detail_texts.specs.Shown.{words, all_words, function_of_value, callable_of_value, operator_of_value};
 ghost use Rattle.pc_detail_texts.specs.Shown.{hint_of_value, override_of_value, type_fault_of_value, detail_of_value};
 
 use crate::details::{
-    Attribute, AttributeHint, Callable, Detail, FunctionName, OperatorUse, OverrideFault,
+    Attribute, AttributeHint, Callable, Detail, Flow, FunctionName, OperatorUse, OverrideFault,
     TypeFault, Unsupported,
 };
-use crate::phrases::{push_between, push_callable, push_operator, push_text, push_where};
+use crate::phrases::{push_between, push_callable_and, push_operator, push_where};
+use crate::pieces::{push_around, push_pair, push_text};
 use crate::reasons::{push_flow, push_misfit, push_override, push_sink};
 use crate::rules::push_rule_fault;
 use pc_source::OutOfMemory;
 use pc_tree::Code;
+use std::rc::RcStr;
 
 /// Appends the hint about a missing attribute.
-fn push_hint(text: &mut String, name: &str, hint: &AttributeHint) -> Result<(), OutOfMemory>
+fn push_hint(text: &mut String, name: &RcStr, hint: &AttributeHint) -> Result<(), OutOfMemory>
     ensures { OnOk result (string_bytes text.new
-        ≡ string_bytes text.old ++ hint_text name.now (hint_of_value hint.now)) }
+        ≡ string_bytes text.old ++ hint_text (words name.now) (hint_of_value hint.now)) }
 {
     match hint {
         AttributeHint::Nothing => Ok(()),
-        AttributeHint::OnlyCalled => Ok(write!(text, ", but a method {name} to call")?),
-        AttributeHint::Below(class) => Ok(write!(text, ", but its subclass {class} has")?),
+        AttributeHint::OnlyCalled => push_around(text, ", but a method ", name, " to call"),
+        AttributeHint::Below(class) => push_around(text, ", but its subclass ", class, " has"),
     }
 }
 
@@ -35,10 +39,12 @@ fn push_attribute(text: &mut String, missing: &Attribute) -> Result<(), OutOfMem
         (words missing.now.of.object) (all_words missing.now.of.lacking.items) (words missing.now.name)
         (hint_of_value missing.now.hint))) }
 {
-    write!(
+    push_pair(
         text,
-        "{} has no attribute {}",
-        missing.of.object, missing.name
+        "",
+        &missing.of.object,
+        " has no attribute ",
+        &missing.name,
     )?;
     push_where(text, &missing.of)?;
     push_hint(text, &missing.name, &missing.hint)
@@ -50,7 +56,7 @@ fn push_undefined(text: &mut String, operator: &OperatorUse) -> Result<(), OutOf
         ++ (operation_text (operator_of_value operator.now) ++ codes " is not defined")) }
 {
     push_operator(text, operator)?;
-    Ok(text.push_str(" is not defined")?)
+    push_text(text, " is not defined")
 }
 
 /// Appends what is said of an object, between two texts, and the members that are at fault.
@@ -64,17 +70,17 @@ fn push_lacking(
         ++ (words of.now.object ++ (after.now
         ++ where_it_is (words of.now.object) (all_words of.now.lacking.items))))) }
 {
-    write!(text, "{before}{}{after}", of.object)?;
+    push_around(text, before, &of.object, after)?;
     push_where(text, of)
 }
 
 /// Appends that `in` is not defined for its operands, and the members that are at fault.
-fn push_uncontained(text: &mut String, sought: &str, of: &Unsupported) -> Result<(), OutOfMemory>
+fn push_uncontained(text: &mut String, sought: &RcStr, of: &Unsupported) -> Result<(), OutOfMemory>
     ensures { OnOk result (string_bytes text.new ≡ string_bytes text.old
-        ++ error_sentence (contain sought.now (words of.now.object) (all_words of.now.lacking.items))) }
+        ++ error_sentence (contain (words sought.now) (words of.now.object) (all_words of.now.lacking.items))) }
 {
     push_between(text, sought, "in", &of.object)?;
-    text.push_str(" is not defined")?;
+    push_text(text, " is not defined")?;
     push_where(text, of)
 }
 
@@ -84,10 +90,7 @@ fn push_type_fault(text: &mut String, fault: &TypeFault) -> Result<(), OutOfMemo
         ≡ string_bytes text.old ++ error_sentence (type_fault_of_value fault.now)) }
 {
     match fault {
-        TypeFault::Flow(flow) => {
-            text.push_str("cannot ")?;
-            push_flow(text, flow)
-        }
+        TypeFault::Flow(flow) => push_flow(text, flow),
         TypeFault::Operator(operator) => push_undefined(text, operator),
         TypeFault::Call(callable, misfit) => push_misfit(text, callable, misfit),
         TypeFault::Attribute(attribute) => push_attribute(text, attribute),
@@ -97,17 +100,14 @@ fn push_type_fault(text: &mut String, fault: &TypeFault) -> Result<(), OutOfMemo
         TypeFault::IterateRange(_) => push_text(text, "this call of range does not fit"),
         TypeFault::Contain(sought, of) => push_uncontained(text, sought, of),
         TypeFault::Length(of) => push_lacking(text, "", of, " has no length"),
-        TypeFault::ListTest(name, _) => push_list_test(text, name),
+        TypeFault::ListTest(name, _) => push_around(
+            text,
+            "the items of list ",
+            name,
+            " are not known",
+        ),
         TypeFault::Override(above, _, fault) => push_override(text, above, fault),
     }
-}
-
-/// Appends that the items of a list are not known.
-fn push_list_test(text: &mut String, name: &str) -> Result<(), OutOfMemory>
-    ensures { OnOk result (string_bytes text.new ≡ string_bytes text.old
-        ++ (codes "the items of list " ++ (name.now ++ codes " are not known"))) }
-{
-    Ok(write!(text, "the items of list {name} are not known")?)
 }
 
 /// Appends that an operator may not be defined for its operands.
@@ -115,9 +115,9 @@ fn push_maybe_defined(text: &mut String, operator: &OperatorUse) -> Result<(), O
     ensures { OnOk result (string_bytes text.new ≡ string_bytes text.old
         ++ (codes "whether " ++ (operation_text (operator_of_value operator.now) ++ codes " is defined"))) }
 {
-    text.push_str("whether ")?;
+    push_text(text, "whether ")?;
     push_operator(text, operator)?;
-    Ok(text.push_str(" is defined")?)
+    push_text(text, " is defined")
 }
 
 /// Appends that a callee may not be one.
@@ -125,35 +125,22 @@ fn push_maybe_called(text: &mut String, callable: &Callable) -> Result<(), OutOf
     ensures { OnOk result (string_bytes text.new ≡ string_bytes text.old
         ++ (codes "whether " ++ (callable_text (callable_of_value callable.now) ++ codes " can be called"))) }
 {
-    text.push_str("whether ")?;
-    push_callable(text, callable)?;
-    Ok(text.push_str(" can be called")?)
-}
-
-/// Appends that an object may not have an attribute.
-fn push_maybe_attribute(text: &mut String, object: &str, name: &str) -> Result<(), OutOfMemory>
-    ensures { OnOk result (string_bytes text.new ≡ string_bytes text.old
-        ++ (codes "whether " ++ (object.now ++ (codes " has attribute " ++ name.now)))) }
-{
-    Ok(write!(text, "whether {object} has attribute {name}")?)
-}
-
-/// Appends a type between two texts.
-fn push_doubted(text: &mut String, before: &str, ty: &str, after: &str) -> Result<(), OutOfMemory>
-    ensures { OnOk result (string_bytes text.new
-        ≡ string_bytes text.old ++ (before.now ++ (ty.now ++ after.now))) }
-{
-    Ok(write!(text, "{before}{ty}{after}")?)
+    push_text(text, "whether ")?;
+    push_callable_and(text, callable, " can be called")
 }
 
 /// Appends that `in` may not be defined for its operands.
-fn push_maybe_contained(text: &mut String, sought: &str, object: &str) -> Result<(), OutOfMemory>
-    ensures { OnOk result (string_bytes text.new ≡ string_bytes text.old
-        ++ (codes "whether " ++ (between_text sought.now (codes "in") object.now ++ codes " is defined"))) }
+fn push_maybe_contained(
+    text: &mut String,
+    sought: &RcStr,
+    object: &RcStr,
+) -> Result<(), OutOfMemory>
+    ensures { OnOk result (string_bytes text.new ≡ string_bytes text.old ++ (codes "whether "
+        ++ (between_text (words sought.now) (codes "in") (words object.now) ++ codes " is defined"))) }
 {
-    text.push_str("whether ")?;
+    push_text(text, "whether ")?;
     push_between(text, sought, "in", object)?;
-    Ok(text.push_str(" is defined")?)
+    push_text(text, " is defined")
 }
 
 /// Appends that a method may not fit one above.
@@ -166,8 +153,18 @@ fn push_maybe_override(
         ++ (codes "whether this method fits, since "
         ++ override_text (function_text (function_of_value above.now)) (override_of_value fault.now))) }
 {
-    text.push_str("whether this method fits, since ")?;
+    push_text(text, "whether this method fits, since ")?;
     push_override(text, above, fault)
+}
+
+/// Appends that a value of one type may not go where another type is expected.
+fn push_maybe_flow(text: &mut String, flow: &Flow) -> Result<(), OutOfMemory>
+    ensures { OnOk result (string_bytes text.new ≡ string_bytes text.old ++ (codes "whether "
+        ++ (words flow.now.from ++ (codes " fits "
+        ++ sink_text (words flow.now.into) (sink_of_value flow.now.sink))))) }
+{
+    push_around(text, "whether ", &flow.from, " fits ")?;
+    push_sink(text, &flow.into, &flow.sink)
 }
 
 /// Appends what cannot be told of types.
@@ -176,24 +173,23 @@ fn push_doubt(text: &mut String, fault: &TypeFault) -> Result<(), OutOfMemory>
         ≡ string_bytes text.old ++ doubt (type_fault_of_value fault.now)) }
 {
     match fault {
-        TypeFault::Flow(flow) => {
-            write!(text, "whether {} fits ", flow.from)?;
-            push_sink(text, &flow.into, &flow.sink)
-        }
+        TypeFault::Flow(flow) => push_maybe_flow(text, flow),
         TypeFault::Operator(operator) => push_maybe_defined(text, operator),
         TypeFault::Call(callable, _) => push_maybe_called(text, callable),
-        TypeFault::Attribute(a) => push_maybe_attribute(text, &a.of.object, &a.name),
-        TypeFault::Index(of, _) => push_doubted(text, "whether ", &of.object, " has items"),
+        TypeFault::Attribute(a) => {
+            push_pair(text, "whether ", &a.of.object, " has attribute ", &a.name)
+        },
+        TypeFault::Index(of, _) => push_around(text, "whether ", &of.object, " has items"),
         TypeFault::Store(of) => {
-            push_doubted(text, "whether items of ", &of.object, " can be assigned")
+            push_around(text, "whether items of ", &of.object, " can be assigned")
         }
         TypeFault::Iterate(of) => {
-            push_doubted(text, "whether ", &of.object, " can be looped over")
+            push_around(text, "whether ", &of.object, " can be looped over")
         }
         TypeFault::IterateRange(_) => push_text(text, "what this call of range gives"),
         TypeFault::Contain(sought, of) => push_maybe_contained(text, sought, &of.object),
-        TypeFault::Length(of) => push_doubted(text, "whether ", &of.object, " has a length"),
-        TypeFault::ListTest(name, _) => push_doubted(text, "what the items of list ", name, " are"),
+        TypeFault::Length(of) => push_around(text, "whether ", &of.object, " has a length"),
+        TypeFault::ListTest(name, _) => push_around(text, "what the items of list ", name, " are"),
         TypeFault::Override(above, _, fault) => push_maybe_override(text, above, fault),
     }
 }
@@ -223,7 +219,7 @@ pub fn push_sentence(text: &mut String, code: Code, detail: &Detail) -> Result<(
     if code.is_error() {
         return push_error(text, detail);
     }
-    text.push_str("cannot tell ")?;
+    push_text(text, "cannot tell ")?;
     match detail {
         Detail::Types(fault) => push_doubt(text, fault),
         Detail::Rule(fault) => push_rule_fault(text, fault),

@@ -1,0 +1,12 @@
+use Rattle.std.proofs.Common.{string_bytes, codes}
+use Rattle.pc_detail_texts.specs.Sentences.{operation_text}
+use Rattle.pc_detail_texts.specs.Shown.{operator_of_value}
+use Rattle.pc_detail_texts.proofs.Joined.{three_ok}
+use Rattle.pc_detail_texts.proofs.sentences.push_maybe_defined.Goals as goal
+
+pub returns : goal.returns
+returns c =
+    three_ok c.push_text-2.result (string_bytes c.args.text.now) (codes "whether ")
+    (operation_text (operator_of_value c.args.operator.now)) (codes " is defined")
+    (string_bytes c.push_text.new.text) (string_bytes c.push_operator.new.text) (string_bytes c.push_text-2.new.text)
+    c.in_ok-push_text.ensures c.in_ok-push_operator.ensures c.push_text-2.ensures
