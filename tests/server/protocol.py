@@ -91,11 +91,16 @@ def notification(method: str, params: Optional[Any] = None) -> Message:
 
 
 def initialize(encodings: Optional[List[str]] = None, options: Optional[Message] = None,
-               pulls: bool = False) -> Message:
-    """Returns the request that begins a session; the client may say that it pulls diagnostics."""
+               pulls: bool = False, related: Any = None) -> Message:
+    """Returns the request that begins a session; the client may say that it pulls diagnostics, and whether it accepts
+    related information."""
     capabilities: Message = {} if encodings is None else {"general": {"positionEncodings": encodings}}
+    if pulls or related is not None:
+        capabilities["textDocument"] = {}
     if pulls:
-        capabilities["textDocument"] = {"diagnostic": {"dynamicRegistration": False}}
+        capabilities["textDocument"]["diagnostic"] = {"dynamicRegistration": False}
+    if related is not None:
+        capabilities["textDocument"]["publishDiagnostics"] = {"relatedInformation": related}
     params: Message = {"processId": 1, "rootUri": None, "capabilities": capabilities}
     if options is not None:
         params["initializationOptions"] = options
@@ -188,11 +193,15 @@ def span(line: int, start: int, end: int) -> Message:
     return {"start": {"line": line, "character": start}, "end": {"line": line, "character": end}}
 
 
-def diagnostic(code: str, place: Message, before: str = "", severity: Optional[int] = None) -> Message:
-    """Returns a diagnostic, whose message is the meaning of the code, after the types of a flow."""
-    usual = 2 if code.startswith("A") else 1
-    return {"code": code, "message": before + MEANINGS[code], "range": place, "source": "pycheck",
-            "severity": usual if severity is None else severity}
+def diagnostic(code: str, place: Message, sentence: Optional[str] = None, others: Sequence[Message] = ()) -> Message:
+    """Returns a diagnostic, whose message is the sentence of its detail, or the meaning of the code, with related
+    information for other places."""
+    found = {"code": code, "message": MEANINGS[code] if sentence is None else sentence, "range": place,
+             "source": "pycheck", "severity": 2 if code.startswith("A") else 1}
+    if others:
+        found["relatedInformation"] = [{"location": {"uri": URI, "range": other}, "message": "see here"}
+                                       for other in others]
+    return found
 
 
 def symbol(kind: int, name: str, place: Message, chosen: Message, parts: Sequence[Message] = ()) -> Message:
@@ -229,4 +238,6 @@ def logged(word: str, reply: Any) -> None:
 
 
 UNKNOWN = [note("not checked: the text of this document is not known until it changes")]
-AGES_FOUND = [diagnostic("E12", span(3, 11, 25)), diagnostic("A2", span(6, 11, 18))]
+AGES_SAYS = "cannot return int | None from age_of, which returns int"
+AGES_FOUND = [diagnostic("E12", span(3, 11, 25), AGES_SAYS),
+              diagnostic("A2", span(6, 11, 18), "cannot tell whether Any + int is defined")]

@@ -1,3 +1,4 @@
 mod Determined
 mod OneTypeAt
 mod Published
+mod ToldItems

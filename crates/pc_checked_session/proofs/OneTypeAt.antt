@@ -5,7 +5,7 @@ use Rattle.std.specs.Prelude.{option_map}
 use Rattle.pc_source.specs.declared.place.Place.{Place}
 use Rattle.pc_tree.proofs.Among.{none_among, first_among, later_among, among_first}
 use Rattle.pc_report.specs.declared.listing.TypeRow.{TypeRow}
-use Rattle.pc_report.specs.TypeListing.{RowContent, content_of, IsAround, bytes_in, IsSmallest, IsSmallestAt}
+use Rattle.pc_report.specs.TypeListing.{RowContent, content_of, IsAround, bytes_in, IsSmallestAt}
 use Rattle.pc_top.proofs.OneListing.{one_listing}
 use Rattle.pc_top.specs.TypesOfBytes.{IsTypeAt}
 

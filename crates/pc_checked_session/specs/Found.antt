@@ -3,7 +3,13 @@ use Rattle.std.specs.Prelude.{◌≡◌, ◌⊎◌, ◌++◌, ℕ, nat_lt, ◌||
 use Rattle.std.specs.Prelude.{if◌then◌else◌}
 use Rattle.std.specs.Rc.{rc_str_bytes}
 use Rattle.pc_source.specs.declared.fault.Refusal.{Refusal}
+use Rattle.pc_source.specs.declared.place.Place.{Place}
+use Rattle.pc_tree.specs.declared.code.Code.{Code}
 use Rattle.pc_tree.specs.declared.code.Finding.{Finding}
+use Rattle.pc_detail_texts.specs.Details.{Detail}
+use Rattle.pc_detail_texts.specs.Places.{other_places}
+use Rattle.pc_detail_texts.specs.Sentences.{Words, sentence_of}
+use Rattle.pc_detail_texts.specs.Shown.{detail_of_value}
 use Rattle.pc_front.specs.Bytes.{IsRefusalOf}
 use Rattle.pc_report.specs.declared.flow.FlowTexts.{FlowTexts}
 use Rattle.pc_report.specs.declared.report.Row.{Row}
@@ -15,13 +21,20 @@ use Rattle.pc_documents.specs.declared.checker.CheckOutcome.TheVariants.{Items, 
 use Rattle.pc_report.specs.declared.listing.TypeRow.{TypeRow}
 use Rattle.pc_report.specs.TypeTexts.{current_text}
 use Rattle.pc_documents.specs.CheckerAnswers.{CheckerAnswer, outcome, type_shown}
+use Rattle.pc_documents.specs.Diagnostics.{diagnostics_limit}
+use Rattle.pc_documents.specs.Said.{told_by}
+use Rattle.pc_top.specs.declared.detailed.PlacedDetail.{PlacedDetail}
+use Rattle.pc_top.specs.DetailedTexts.{detail_in}
+use Rattle.pc_top.specs.DetailsWithin.{told_within}
 use Rattle.pc_top.specs.Headline.{Headline}
 use Rattle.pc_top.specs.TypesOfBytes.{IsTypeAt}
 
--- the content of a row: a finding, and the texts of the two types of its flow, if it has one
+-- the content of a row: a finding, the texts of the two types of its flow, and the sentence of its detail with the other
+-- places that the detail names, if it has them
 pub record Said : Type 0 where
   pub finding : Finding
   pub flow : Option (List ℕ × List ℕ)
+  pub detail : Option (List ℕ × List Place)
 
 -- the greatest length in bytes of a type's text that is shown
 abbrev pub shown_limit : ℕ
@@ -40,9 +53,29 @@ abbrev pub shown_flow : Option FlowTexts → Option (List ℕ × List ℕ)
 shown_flow None = None
 shown_flow (Some texts) = shown (rc_str_bytes texts.from) (rc_str_bytes texts.to)
 
--- the content of a row
-abbrev pub said_by_row : Row → Said
-said_by_row row = record { finding = row.finding; flow = shown_flow (row_flow row) }
+-- the sentence of a detail of a finding with this code, and the other places that the detail names
+abbrev pub detail_said : Code → Detail Words → List ℕ × List Place
+detail_said code detail = (sentence_of code detail, other_places detail)
+
+-- the same of a detail that a report holds
+abbrev pub held_said : Code → PlacedDetail → List ℕ × List Place
+held_said code held = detail_said code (detail_of_value held.detailed.detail)
+
+-- the content of a row, given that of its detail
+abbrev pub said_with : Option (List ℕ × List Place) → Row → Said
+said_with detail row = record { finding = row.finding; flow = shown_flow (row_flow row); detail = detail }
+
+-- the content of a row, with the detail that its finding is told
+abbrev pub said_by_row : (Finding → Option (Detail Words)) → Row → Said
+said_by_row told row = said_with (option_map (detail_said row.finding.code) (told row.finding)) row
+
+-- the detail that a finding of rows is told: its own; none if there are more rows than there may be diagnostics
+abbrev pub told_of_rows : List Row → (Finding → Option (Detail Words)) → Finding → Option (Detail Words)
+told_of_rows rows = told_within diagnostics_limit (length rows)
+
+-- the content of rows, as far as it is shown
+abbrev pub said_by_rows : (Finding → Option (Detail Words)) → List Row → List Said
+said_by_rows told rows = map (said_by_row (told_of_rows rows told)) rows
 
 -- the texts of the two types of an item's flow
 abbrev pub flow_type_texts : FlowTypes → List ℕ × List ℕ
@@ -50,12 +83,17 @@ flow_type_texts flow = (string_bytes flow.from, string_bytes flow.to)
 
 -- the content of an item
 abbrev pub said_by_item : ReportedFinding → Said
-said_by_item item = record { finding = item.finding; flow = option_map flow_type_texts item.flow }
+said_by_item item = record {
+  finding = item.finding;
+  flow = option_map flow_type_texts item.flow;
+  detail = option_map told_by item.detail;
+}
 
--- the findings of a text: items with the content, in order, of rows for which the headline holds; or its refusal
+-- the findings of a text: items with the content, in order, of rows for which the headline holds, with the details of
+-- their findings if there are not too many rows; or its refusal
 abbrev pub IsOutcomeOf : List ℕ → CheckOutcome → Type 0
-IsOutcomeOf text (Items items) =
-    (rows : List Row) × Headline text rows × (map said_by_item items.items ≡ map said_by_row rows)
+IsOutcomeOf text (Items items) = (rows : List Row) × (headline : Headline text rows)
+    × (map said_by_item items.items ≡ said_by_rows (detail_in headline.whole) rows)
 IsOutcomeOf text (Refused refusal) = IsRefusalOf text refusal
 
 -- the types of a row as a text, as `--types` prints them: of an expression its type; of a name its declared type and, if it

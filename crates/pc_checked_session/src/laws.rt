@@ -8,9 +8,10 @@ ghost use Rattle.pc_checked_session.specs.Published.{OpenedTextsArePublished, Ch
 
 use std::io::{Read, Write};
 
-/// The law that the diagnostics of a text are the rows of its report, for which the headline holds, in order; or
-/// exactly one, at the byte of its refusal. Of more than 1,000 rows they are the first 999, and one that says how many
-/// more there are.
+/// The law that the diagnostics of a text are the rows of its report, for which the headline holds, in order, each with
+/// the sentence and the other places of the detail that explains its finding, if it has one; or exactly one, at the byte
+/// of its refusal. Of more than 1,000 rows they are the first 999, without details, and one that says how many more there
+/// are.
 pub fn diagnostics_are_rows()
     ensures { DiagnosticsAreRows }
 {}

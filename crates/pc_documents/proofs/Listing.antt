@@ -63,6 +63,15 @@ one_more shown f xs i x before v within is same one = map-append shown before (v
     ∙ (sym (map-append f (take i xs) (x ∷ []))
     ∙ ap (map f) (sym (take_more xs i x within ∙ ap (λ y. take i xs ++ y ∷ []) (sym is))))))
 
+-- the same where the thing is the one at this index
+pub one_at : {V X : Type 0} (shown : V → Data) (f : X → Data) (xs : List X) (i : ℕ) (none : X) (before : List V)
+    (v : V) → i < length xs → map shown before ≡ map f (take i xs) → shown v ≡ f (get_or xs i none)
+    → map shown (before ++ v ∷ []) ≡ map f (take (i + 1) xs)
+one_at shown f xs i none before v within same one = map-append shown before (v ∷ [])
+    ∙ (ap (λ l. l ++ shown v ∷ []) same
+    ∙ (ap (λ d. map f (take i xs) ++ d ∷ []) one
+    ∙ (sym (map-append f (take i xs) (get_or xs i none ∷ [])) ∙ ap (map f) (sym (take_more xs i none within)))))
+
 -- the members of a class, by the kind of its item
 pub class_members : (it : RustItem) (c : ClassDef) → it.kind ≡ rust_item.Class c
     → members_of_item (item_of it) ≡ map member_of c.members.items

@@ -1,21 +1,17 @@
 -- Where the names at a position of a text are bound. Language Server Protocol 3.17, "Goto Definition Request"; own rule
 -- of the server.
-use Rattle.std.specs.Prelude.{◌≡◌, ◌⊎◌, ℕ, Bool, true, false, List, [], ◌∷◌, ◌++◌, codes, Option, None, Some}
+use Rattle.std.specs.Prelude.{◌≡◌, ◌⊎◌, ℕ, Bool, true, false, List, [], ◌∷◌, ◌++◌, Option, None, Some}
 use Rattle.std.specs.Prelude.{if◌then◌else◌}
-use Rattle.serde_json.specs.Data.{Data, string, object, no_members, member}
+use Rattle.serde_json.specs.Data.{Data}
 use Rattle.pc_tree.specs.Tree.{Name, Module}
 use Rattle.pc_front.specs.Bytes.{IsModuleOf}
 use Rattle.pc_bindings.specs.Mentions.{Mention, mentions_in}
 use Rattle.pc_bindings.specs.Bindings.{binding_of}
 use Rattle.pc_position.specs.declared.positions.Encoding.{Encoding}
 use Rattle.pc_position.specs.declared.positions.Position.{Position}
-use Rattle.pc_documents.specs.Diagnostics.{position_at, range_data}
+use Rattle.pc_documents.specs.Diagnostics.{location_of, position_at, range_data}
 use Rattle.pc_documents.specs.Hovers.{is_within}
 use Rattle.pc_documents.specs.Symbols.{AreOfRefusal}
-
--- a range of the document with this address
-abbrev pub location_of : List ℕ → Data → Data
-location_of uri range = object (member (codes "range") range (member (codes "uri") (string uri) no_members))
 
 -- where a name stands in the document with this address
 abbrev pub location_data : Encoding → List ℕ → List ℕ → Name → Data

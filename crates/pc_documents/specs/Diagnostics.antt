@@ -1,9 +1,11 @@
 -- Diagnostics as data. Language Server Protocol 3.17, "Diagnostic".
 use Rattle.std.specs.List.{suffix_len}
 use Rattle.std.specs.Prelude.{ℕ, ◌+◌, ◌-◌, ◌==◌, ◌&&◌, nat_le, nat_lt, Bool, List, [], ◌∷◌, ◌++◌, length, map, take}
-use Rattle.std.specs.Prelude.{Option, None, Some, codes, decimal, string_bytes, slice_get, if◌then◌else◌}
-use Rattle.serde_json.specs.Data.{Data, number, string, object, unsigned, no_members, member}
+use Rattle.std.specs.Prelude.{Option, None, Some, codes, decimal, not, string_bytes, slice_get, if◌then◌else◌}
+use Rattle.serde_json.specs.Data.{Data, Members, number, string, array, object, unsigned, no_members, member}
+use Rattle.serde_json.specs.View.{items_of}
 use Rattle.pc_source.specs.declared.fault.Refusal.{Refusal}
+use Rattle.pc_source.specs.declared.place.Place.{Place}
 use Rattle.pc_source.specs.Refusals.{code_text}
 use Rattle.pc_position.specs.declared.positions.Encoding.{Encoding}
 use Rattle.pc_position.specs.declared.positions.Position.{Position}
@@ -16,6 +18,7 @@ use Rattle.pc_documents.specs.declared.checker.CheckOutcome.{CheckOutcome}
 use Rattle.pc_documents.specs.declared.checker.CheckOutcome.TheVariants.{Items, Refused}
 use Rattle.pc_documents.specs.declared.checker.FlowTypes.{FlowTypes}
 use Rattle.pc_documents.specs.declared.checker.ReportedFinding.{ReportedFinding}
+use Rattle.pc_documents.specs.declared.checker.ToldDetail.{ToldDetail}
 use Rattle.pc_documents.specs.Agreed.{Agreed}
 use Rattle.pc_documents.specs.Anchors.{anchor_of, refusal_anchor_of, entry_at}
 
@@ -35,38 +38,73 @@ range_data encoding text start end =
     object (member (codes "end") (position_data (position_at encoding text end))
     (member (codes "start") (position_data (position_at encoding text start)) no_members))
 
+-- a range of the document with this address
+abbrev pub location_of : List ℕ → Data → Data
+location_of uri range = object (member (codes "range") range (member (codes "uri") (string uri) no_members))
+
 -- the severity of a code: 1, an error, or what was agreed for dynamic places
 abbrev pub severity_of : ℕ → Code → ℕ
 severity_of dynamic code = if is_error code then 1 else dynamic
 
 -- the meaning of a code, after the two types of its flow
-abbrev pub message_text : Code → Option FlowTypes → List ℕ
-message_text code None = meaning_of code
-message_text code (Some flow) = string_bytes flow.from
+abbrev pub meaning_with_types : Code → Option FlowTypes → List ℕ
+meaning_with_types code None = meaning_of code
+meaning_with_types code (Some flow) = string_bytes flow.from
     ++ (codes " -> " ++ (string_bytes flow.to ++ (codes ": " ++ meaning_of code)))
 
--- a diagnostic, with a link to the entry of its code if the client named a page
-abbrev pub diagnostic_data : Option (List ℕ) → Data → ℕ → List ℕ → List ℕ → Data
-diagnostic_data None range severity code message =
-    object (member (codes "code") (string code)
-    (member (codes "message") (string message)
-    (member (codes "range") range
-    (member (codes "severity") (number (unsigned severity))
-    (member (codes "source") (string (codes "pycheck")) no_members)))))
-diagnostic_data (Some entry) range severity code message =
-    object (member (codes "code") (string code)
-    (member (codes "codeDescription") (object (member (codes "href") (string entry) no_members))
-    (member (codes "message") (string message)
-    (member (codes "range") range
-    (member (codes "severity") (number (unsigned severity))
-    (member (codes "source") (string (codes "pycheck")) no_members))))))
+-- the message of a finding: the sentence of its detail; without one the meaning of its code, after the two types of its
+-- flow
+abbrev pub message_text : Code → Option FlowTypes → Option ToldDetail → List ℕ
+message_text code flow None = meaning_with_types code flow
+message_text code flow (Some detail) = string_bytes detail.sentence
 
--- the diagnostic of a finding
-abbrev pub item_data : Agreed → List ℕ → ReportedFinding → Data
-item_data agreed text item = diagnostic_data (entry_at agreed.codes_page (anchor_of item.finding.code))
+-- an entry of related information: a location, and a word for the reader
+abbrev pub related_entry : Data → Data
+related_entry location =
+    object (member (codes "location") location (member (codes "message") (string (codes "see here")) no_members))
+
+-- the entry for another place in the document with this address
+abbrev pub place_data : Encoding → List ℕ → List ℕ → Place → Data
+place_data encoding text uri at = related_entry (location_of uri (range_data encoding text at.start at.end))
+
+-- the related information for places: an entry for each, in order, if the client accepts it and there is such a place
+abbrev pub related_to : Agreed → List ℕ → List ℕ → List Place → Option Data
+related_to agreed text uri places = if agreed.related && not (length places == 0)
+    then Some (array (items_of (map (place_data agreed.encoding text uri) places))) else None
+
+-- the related information of a finding: the other places that its detail names
+abbrev pub related_data : Agreed → List ℕ → List ℕ → Option ToldDetail → Option Data
+related_data agreed text uri None = None
+related_data agreed text uri (Some detail) = related_to agreed text uri detail.others.items
+
+-- members, after a link to the entry of a code if the client named a page
+abbrev pub with_link : Option (List ℕ) → Members → Members
+with_link None members = members
+with_link (Some entry) members =
+    member (codes "codeDescription") (object (member (codes "href") (string entry) no_members)) members
+
+-- members, after related information if there is any
+abbrev pub with_related : Option Data → Members → Members
+with_related None members = members
+with_related (Some related) members = member (codes "relatedInformation") related members
+
+-- a diagnostic, with a link to the entry of its code if the client named a page, and with related information if there
+-- is any
+abbrev pub diagnostic_data : Option (List ℕ) → Option Data → Data → ℕ → List ℕ → List ℕ → Data
+diagnostic_data entry related range severity code message =
+    object (member (codes "code") (string code)
+    (with_link entry (member (codes "message") (string message)
+    (member (codes "range") range
+    (with_related related (member (codes "severity") (number (unsigned severity))
+    (member (codes "source") (string (codes "pycheck")) no_members)))))))
+
+-- the diagnostic of a finding in the text of the document with this address
+abbrev pub item_data : Agreed → List ℕ → List ℕ → ReportedFinding → Data
+item_data agreed text uri item = diagnostic_data (entry_at agreed.codes_page (anchor_of item.finding.code))
+    (related_data agreed text uri item.detail)
     (range_data agreed.encoding text item.finding.place.start item.finding.place.end)
     (severity_of agreed.dynamic_severity item.finding.code)
-    (text_of item.finding.code) (message_text item.finding.code item.flow)
+    (text_of item.finding.code) (message_text item.finding.code item.flow item.detail)
 
 -- the number of bytes of the character that begins with this byte; 2 for a carriage return with its line feed
 abbrev pub width_of : ℕ → ℕ
@@ -93,7 +131,7 @@ end_of text byte = end_after (start_of text byte) (slice_get text (start_of text
 
 -- the diagnostic of a refusal, at the character of its byte
 abbrev pub refusal_data : Agreed → List ℕ → Refusal → Data
-refusal_data agreed text refusal = diagnostic_data (entry_at agreed.codes_page (refusal_anchor_of refusal.code))
+refusal_data agreed text refusal = diagnostic_data (entry_at agreed.codes_page (refusal_anchor_of refusal.code)) None
     (range_data agreed.encoding text (start_of text refusal.byte) (end_of text refusal.byte))
     1 (code_text refusal.code) (refusal_meaning_of refusal.code)
 
@@ -127,7 +165,8 @@ abbrev pub limited : List Data → List Data
 limited all = if nat_le (length all) diagnostics_limit then all
     else take 999 all ++ more_data (length all - 999) ∷ []
 
--- the diagnostics of a text: one for each finding, in order and within the limit, or exactly one for its refusal
-abbrev pub found_data : Agreed → List ℕ → CheckOutcome → List Data
-found_data agreed text (Items items) = limited (map (item_data agreed text) items.items)
-found_data agreed text (Refused refusal) = refusal_data agreed text refusal ∷ []
+-- the diagnostics of the text of the document with this address: one for each finding, in order and within the limit, or
+-- exactly one for its refusal
+abbrev pub found_data : Agreed → List ℕ → List ℕ → CheckOutcome → List Data
+found_data agreed text uri (Items items) = limited (map (item_data agreed text uri) items.items)
+found_data agreed text uri (Refused refusal) = refusal_data agreed text refusal ∷ []

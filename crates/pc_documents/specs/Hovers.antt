@@ -13,6 +13,7 @@ use Rattle.pc_documents.specs.declared.checker.CheckOutcome.{CheckOutcome}
 use Rattle.pc_documents.specs.declared.checker.CheckOutcome.TheVariants.{Items, Refused}
 use Rattle.pc_documents.specs.declared.checker.FlowTypes.{FlowTypes}
 use Rattle.pc_documents.specs.declared.checker.ReportedFinding.{ReportedFinding}
+use Rattle.pc_documents.specs.declared.checker.ToldDetail.{ToldDetail}
 use Rattle.pc_documents.specs.Agreed.{Agreed}
 use Rattle.pc_documents.specs.CheckerAnswers.{CheckerAnswer, outcome, type_shown}
 use Rattle.pc_documents.specs.Diagnostics.{position_at, start_of}
@@ -37,10 +38,16 @@ flow_text None = []
 flow_text (Some flow) =
     codes ": `" ++ (string_bytes flow.from ++ (codes "` to `" ++ (string_bytes flow.to ++ codes "`")))
 
--- the explanation of a finding: its code, its label, the two types of its flow, its meaning, and how to mend it
+-- the reason for a finding: the sentence of its detail, as a block of code, in which no character has a meaning in
+-- Markdown; without a detail the two types of its flow
+abbrev pub told_reason : Option FlowTypes → Option ToldDetail → List ℕ
+told_reason flow None = flow_text flow
+told_reason flow (Some detail) = codes "\n\n```text\n" ++ (string_bytes detail.sentence ++ codes "\n```")
+
+-- the explanation of a finding: its code, its label, its reason, its meaning, and how to mend it
 abbrev pub item_text : ReportedFinding → List ℕ
 item_text item = codes "**" ++ (text_of item.finding.code ++ (codes "** " ++ (label_of item.finding.code
-    ++ (flow_text item.flow ++ (codes "\n\n" ++ (meaning_of item.finding.code
+    ++ (told_reason item.flow item.detail ++ (codes "\n\n" ++ (meaning_of item.finding.code
     ++ (codes "\n\n" ++ mending_of item.finding.code)))))))
 
 -- the explanation of a refusal: its code, its title, its meaning, and how to mend it

@@ -3,7 +3,7 @@
 ghost use Rattle.std.specs.Prelude.{IfOk, option_map, string_bytes};
 ghost use Rattle.pc_documents.specs.CheckerAnswers.{outcome, type_shown};
 
-use pc_source::{OutOfMemory, Refusal};
+use pc_source::{OutOfMemory, Place, Refusal};
 use pc_tree::Finding;
 use std::alloc::Global;
 
@@ -14,11 +14,19 @@ pub struct FlowTypes {
     pub to: String,
 }
 
-/// A finding, with the two types of its flow, if it has one.
+/// The sentence of a finding's detail, and the other places that the detail names.
+#[derive(Debug, Drop, PartialEq, Eq)]
+pub struct ToldDetail {
+    pub sentence: String,
+    pub others: Vec<Place>,
+}
+
+/// A finding, with the two types of its flow and its detail, if it has them.
 #[derive(Debug, Drop, PartialEq, Eq)]
 pub struct ReportedFinding {
     pub finding: Finding,
     pub flow: Option<FlowTypes>,
+    pub detail: Option<ToldDetail>,
 }
 
 /// Result of checking a text: the findings of a module, in order, or the refusal of a text that is not a module.

@@ -8,27 +8,21 @@ ghost use Rattle.pc_bindings.specs.Mentions.{mentions_in};
 ghost use Rattle.pc_bindings.specs.Bindings.{binding_of};
 ghost use Rattle.pc_bindings.specs.Written.{mention_of};
 ghost use Rattle.pc_position.specs.Positions.{IsPositionOf};
-ghost use Rattle.pc_documents.specs.Definitions.{location_of, location_data, located, is_at, definitions_among};
+ghost use Rattle.pc_documents.specs.Definitions.{location_data, located, is_at, definitions_among};
 ghost use Rattle.pc_documents.specs.Definitions.{definitions_in, AreDefinitions, AreDefinitionsAs};
 
 use crate::diagnostics::{ends_of, range_value};
 use crate::documents::Document;
 use crate::hover::is_within;
+use crate::related::location_value;
 use crate::settings::Settings;
 use pc_bindings::{Mention, binding_of, mentions};
 use pc_front::read_module;
 use pc_position::{Encoding, Mark, Position};
 use pc_source::OutOfMemory;
 use pc_tree::{Module, Name};
-use serde_json::{Value, json};
+use serde_json::Value;
 use std::alloc::{AllocError, Global};
-
-/// Returns a range of the document with this URI as JSON.
-fn location_value(alloc: Global, uri: &str, range: Value) -> Result<Value, AllocError>
-    ensures { IfOk result (λ v. view v ≡ location_of uri.now (view range)) }
-{
-    json!(in alloc; {"range": range, "uri": uri})
-}
 
 /// Returns the place of a name, in the document with this URI.
 fn location(

@@ -1,17 +1,18 @@
 //! Diagnostics of findings and refusals.
 
 ghost use Rattle.std.specs.List.{suffix_len};
-ghost use Rattle.std.specs.Prelude.{◌≡◌, ◌≤◌, ◌∷◌, [], IfOk, length, map, option_map, string_bytes, take};
+ghost use Rattle.std.specs.Prelude.{◌≡◌, ◌≤◌, ◌∷◌, [], IfOk, None, Some, length, map, option_map, string_bytes, take};
 ghost use Rattle.serde_json.specs.View.{view};
 ghost use Rattle.pc_position.specs.Positions.{IsPositionOf};
 ghost use Rattle.pc_documents.specs.Agreed.{agreed_of};
-ghost use Rattle.pc_documents.specs.Diagnostics.{position_data, range_data, severity_of, message_text, diagnostic_data};
-ghost use Rattle.pc_documents.specs.Diagnostics.{item_data, refusal_data, found_data, width_of, is_continuation};
-ghost use Rattle.pc_documents.specs.Diagnostics.{start_of, end_of, position_in_first_line, note_data, unknown_data, more_data};
-ghost use Rattle.pc_documents.specs.Diagnostics.{limited};
+ghost use Rattle.pc_documents.specs.Diagnostics.{position_data, range_data, severity_of, meaning_with_types, message_text};
+ghost use Rattle.pc_documents.specs.Diagnostics.{diagnostic_data, item_data, refusal_data, found_data};
+ghost use Rattle.pc_documents.specs.Diagnostics.{width_of, is_continuation, start_of, end_of, position_in_first_line};
+ghost use Rattle.pc_documents.specs.Diagnostics.{note_data, unknown_data, more_data, limited};
 
 use crate::anchors::{anchor, entry, refusal_anchor};
 use crate::checker::{CheckOutcome, ReportedFinding};
+use crate::related::related_value;
 use crate::settings::Settings;
 use pc_code_texts::{meaning, refusal_meaning};
 use pc_position::{Encoding, Mark, Position, mark_after};
@@ -49,9 +50,9 @@ fn severity(dynamic: u64, code: Code) -> u64
     if code.is_error() { 1 } else { dynamic }
 }
 
-/// Returns the message of a finding: the two types of its flow, if any, and the meaning of its code.
-fn message_of(alloc: Global, item: &ReportedFinding) -> Result<String, AllocError>
-    ensures { IfOk result (λ s. string_bytes s ≡ message_text item.now.finding.code item.now.flow) }
+/// Returns the meaning of a finding's code, after the two types of its flow, if any.
+fn meaning_of(alloc: Global, item: &ReportedFinding) -> Result<String, AllocError>
+    ensures { IfOk result (λ s. string_bytes s ≡ meaning_with_types item.now.finding.code item.now.flow) }
 {
     let text = meaning(item.finding.code);
     match &item.flow {
@@ -64,8 +65,19 @@ fn message_of(alloc: Global, item: &ReportedFinding) -> Result<String, AllocErro
     }
 }
 
-/// Returns a diagnostic, with a link to the entry of its code if there is one.
-fn diagnostic(
+/// Returns the message of a finding: the sentence of its detail, or without one the meaning of its code.
+fn message_of(alloc: Global, item: &ReportedFinding) -> Result<String, AllocError>
+    ensures { IfOk result
+        (λ s. string_bytes s ≡ message_text item.now.finding.code item.now.flow item.now.detail) }
+{
+    match &item.detail {
+        None => meaning_of(alloc, item),
+        Some(detail) => String::from_str(alloc, detail.sentence.as_str()),
+    }
+}
+
+/// Returns a diagnostic without related information, with a link to the entry of its code if there is one.
+fn plain_diagnostic(
     alloc: Global,
     entry: &Option<String>,
     range: Value,
@@ -74,7 +86,7 @@ fn diagnostic(
     message: &str,
 ) -> Result<Value, AllocError>
     ensures { IfOk result (λ v. view v
-        ≡ diagnostic_data (option_map string_bytes entry.now) (view range) severity code.now message.now) }
+        ≡ diagnostic_data (option_map string_bytes entry.now) None (view range) severity code.now message.now) }
 {
     match entry {
         None => json!(in alloc; {
@@ -92,6 +104,61 @@ fn diagnostic(
             "severity": severity,
             "source": "pycheck"
         }),
+    }
+}
+
+/// Returns a diagnostic with related information, with a link to the entry of its code if there is one.
+fn related_diagnostic(
+    alloc: Global,
+    entry: &Option<String>,
+    related: Value,
+    range: Value,
+    severity: u64,
+    code: &str,
+    message: &str,
+) -> Result<Value, AllocError>
+    ensures { IfOk result (λ v. view v ≡ diagnostic_data (option_map string_bytes entry.now) (Some (view related))
+        (view range) severity code.now message.now) }
+{
+    match entry {
+        None => json!(in alloc; {
+            "code": code,
+            "message": message,
+            "range": range,
+            "relatedInformation": related,
+            "severity": severity,
+            "source": "pycheck"
+        }),
+        Some(entry) => json!(in alloc; {
+            "code": code,
+            "codeDescription": {"href": entry.as_str()},
+            "message": message,
+            "range": range,
+            "relatedInformation": related,
+            "severity": severity,
+            "source": "pycheck"
+        }),
+    }
+}
+
+/// Returns a diagnostic, with a link to the entry of its code and with related information, if there are any.
+fn diagnostic(
+    alloc: Global,
+    entry: &Option<String>,
+    related: Option<Value>,
+    range: Value,
+    severity: u64,
+    code: &str,
+    message: &str,
+) -> Result<Value, AllocError>
+    ensures { IfOk result (λ v. view v ≡ diagnostic_data (option_map string_bytes entry.now) (option_map view related)
+        (view range) severity code.now message.now) }
+{
+    match related {
+        None => plain_diagnostic(alloc, entry, range, severity, code, message),
+        Some(related) => {
+            related_diagnostic(alloc, entry, related, range, severity, code, message)
+        }
     }
 }
 
@@ -113,21 +180,33 @@ pub(crate) fn ends_of(
     (start, end)
 }
 
-/// Returns the diagnostic of a finding, and the mark of its start. Counts from the mark `known`.
+/// The marks of a place and of another place, from which the next ones are counted.
+#[derive(Clone, Copy)]
+struct Marks {
+    place: Mark,
+    other: Mark,
+}
+
+/// Returns the diagnostic of a finding in the text of the document with this URI, and the marks of its start and of the
+/// last other place. Counts from the marks `known`.
 fn item_value(
     alloc: Global,
     settings: &Settings,
     text: &[u8],
-    known: Mark,
+    uri: &str,
+    known: Marks,
     item: &ReportedFinding,
-) -> Result<(Value, Mark), AllocError>
-    requires { IsPositionOf settings.now.encoding text.now known.byte known.position }
-    ensures value { IfOk result (λ r. view r.0 ≡ item_data (agreed_of settings.now) text.now item.now) }
-    ensures mark { IfOk result (λ r. IsPositionOf settings.now.encoding text.now r.1.byte r.1.position) }
+) -> Result<(Value, Marks), AllocError>
+    requires place { IsPositionOf settings.now.encoding text.now known.place.byte known.place.position }
+    requires other { IsPositionOf settings.now.encoding text.now known.other.byte known.other.position }
+    ensures value { IfOk result (λ r. view r.0 ≡ item_data (agreed_of settings.now) text.now uri.now item.now) }
+    ensures place { IfOk result (λ r. IsPositionOf settings.now.encoding text.now r.1.place.byte r.1.place.position) }
+    ensures other { IfOk result (λ r. IsPositionOf settings.now.encoding text.now r.1.other.byte r.1.other.position) }
 {
     let place = item.finding.place;
-    let (start, end) = ends_of(text, settings.encoding, known, place.start, place.end);
+    let (start, end) = ends_of(text, settings.encoding, known.place, place.start, place.end);
     let range = range_value(alloc, start.position, end.position)?;
+    let (related, other) = related_value(alloc, settings, text, uri, known.other, &item.detail)?;
     let message = message_of(alloc, item)?;
     let code = item.finding.code;
     let severity = severity(settings.dynamic_severity, code);
@@ -136,29 +215,41 @@ fn item_value(
     let value = diagnostic(
         alloc,
         &entry,
+        related,
         range,
         severity,
         code.text(),
         message.as_str(),
     )?;
-    Ok((value, start))
+    Ok((
+        value,
+        Marks {
+            place: start,
+            other,
+        },
+    ))
 }
 
-/// Returns the diagnostics of findings, in order.
+/// Returns the diagnostics of findings in the text of the document with this URI, in order.
 fn item_values(
     alloc: Global,
     settings: &Settings,
     text: &[u8],
+    uri: &str,
     items: &[ReportedFinding],
 ) -> Result<Vec<Value>, AllocError>
-    ensures { IfOk result (λ v. map view v.items ≡ map (item_data (agreed_of settings.now) text.now) items.now) }
+    ensures { IfOk result
+        (λ v. map view v.items ≡ map (item_data (agreed_of settings.now) text.now uri.now) items.now) }
 {
     let mut values = Vec::with_capacity(alloc, items.len())?;
-    let mut known = Mark::start();
+    let mut known = Marks {
+        place: Mark::start(),
+        other: Mark::start(),
+    };
     for item in items {
-        let (value, start) = item_value(alloc, settings, text, known, item)?;
+        let (value, marks) = item_value(alloc, settings, text, uri, known, item)?;
         values.push(value)?;
-        known = start;
+        known = marks;
     }
     Ok(values)
 }
@@ -213,15 +304,16 @@ fn first_values(
     alloc: Global,
     settings: &Settings,
     text: &[u8],
+    uri: &str,
     items: &[ReportedFinding],
     most: usize,
 ) -> Result<Vec<Value>, AllocError>
     requires { most ≤ length items.now }
     ensures { IfOk result (λ v. map view v.items
-        ≡ map (item_data (agreed_of settings.now) text.now) (take most items.now)) }
+        ≡ map (item_data (agreed_of settings.now) text.now uri.now) (take most items.now)) }
 {
     let first = &items[..most];
-    item_values(alloc, settings, text, first)
+    item_values(alloc, settings, text, uri, first)
 }
 
 /// Returns the diagnostics of findings, in order. Past the maximum, the last one says how many are not shown.
@@ -230,15 +322,16 @@ fn limited_values(
     alloc: Global,
     settings: &Settings,
     text: &[u8],
+    uri: &str,
     items: &[ReportedFinding],
 ) -> Result<Vec<Value>, AllocError>
     ensures { IfOk result (λ v. map view v.items
-        ≡ limited (map (item_data (agreed_of settings.now) text.now) items.now)) }
+        ≡ limited (map (item_data (agreed_of settings.now) text.now uri.now) items.now)) }
 {
     if items.len() <= DIAGNOSTICS_LIMIT {
-        return item_values(alloc, settings, text, items);
+        return item_values(alloc, settings, text, uri, items);
     }
-    let mut values = first_values(alloc, settings, text, items, SHOWN)?;
+    let mut values = first_values(alloc, settings, text, uri, items, SHOWN)?;
     values.push(more(alloc, items.len() - SHOWN)?)?;
     Ok(values)
 }
@@ -312,20 +405,21 @@ fn refusal_value(
     let range = range_value(alloc, start.position, end.position)?;
     let message = refusal_meaning(refusal.code);
     let entry = entry(alloc, &settings.codes_page, refusal_anchor(refusal.code))?;
-    diagnostic(alloc, &entry, range, 1, refusal.code.text(), message)
+    plain_diagnostic(alloc, &entry, range, 1, refusal.code.text(), message)
 }
 
-/// Returns the diagnostics of the findings in a text, or of its refusal.
+/// Returns the diagnostics of the findings in the text of the document with this URI, or of its refusal.
 pub(crate) fn found_values(
     alloc: Global,
     settings: &Settings,
     text: &[u8],
+    uri: &str,
     found: &CheckOutcome,
 ) -> Result<Vec<Value>, AllocError>
-    ensures { IfOk result (λ v. map view v.items ≡ found_data (agreed_of settings.now) text.now found.now) }
+    ensures { IfOk result (λ v. map view v.items ≡ found_data (agreed_of settings.now) text.now uri.now found.now) }
 {
     match found {
-        CheckOutcome::Items(items) => limited_values(alloc, settings, text, items),
+        CheckOutcome::Items(items) => limited_values(alloc, settings, text, uri, items),
         CheckOutcome::Refused(refusal) => {
             let mut values = Vec::with_capacity(alloc, 1)?;
             values.push(refusal_value(alloc, settings, text, *refusal)?)?;

@@ -3,7 +3,8 @@
 ghost use Rattle.std.specs.Prelude.{◌≡◌, ℕ, List, Option, Some, OnOk, IfOk, string_bytes, fold, filter};
 ghost use Rattle.pc_position.specs.Positions.{IsPositionOf};
 ghost use Rattle.pc_documents.specs.Agreed.{agreed_of};
-ghost use Rattle.pc_documents.specs.Hovers.{is_before, is_within, has_position, flow_text, item_text, refusal_text};
+ghost use Rattle.pc_documents.specs.Hovers.{is_before, is_within, has_position, flow_text, told_reason, item_text};
+ghost use Rattle.pc_documents.specs.Hovers.{refusal_text};
 ghost use Rattle.pc_documents.specs.Hovers.{ruled, said_after, code_block, hover_text};
 
 use crate::checker::{CheckOutcome, FlowTypes, ReportedFinding};
@@ -42,6 +43,20 @@ fn flow_text(alloc: Global, flow: &Option<FlowTypes>) -> Result<String, AllocErr
     }
 }
 
+/// Returns the reason for a finding in Markdown: the sentence of its detail, as a block of code, or without a detail the
+/// two types of its flow.
+fn told_reason(alloc: Global, item: &ReportedFinding) -> Result<String, AllocError>
+    ensures { IfOk result (λ s. string_bytes s ≡ told_reason item.now.flow item.now.detail) }
+{
+    match &item.detail {
+        None => flow_text(alloc, &item.flow),
+        Some(detail) => {
+            let sentence = detail.sentence.as_str();
+            format!(in alloc; "\n\n```text\n{sentence}\n```")
+        }
+    }
+}
+
 /// Returns the explanation of a finding in Markdown.
 fn item_text(alloc: Global, item: &ReportedFinding) -> Result<String, AllocError>
     ensures { IfOk result (λ s. string_bytes s ≡ item_text item.now) }
@@ -49,11 +64,11 @@ fn item_text(alloc: Global, item: &ReportedFinding) -> Result<String, AllocError
     let code = item.finding.code;
     let name = code.text();
     let label = code.label();
-    let flow = flow_text(alloc, &item.flow)?;
-    let flow = flow.as_str();
+    let reason = told_reason(alloc, item)?;
+    let reason = reason.as_str();
     let means = meaning(code);
     let mends = mending(code);
-    format!(in alloc; "**{name}** {label}{flow}\n\n{means}\n\n{mends}")
+    format!(in alloc; "**{name}** {label}{reason}\n\n{means}\n\n{mends}")
 }
 
 /// Returns the explanation of a refusal in Markdown.

@@ -7,12 +7,13 @@ mod definitions;
 mod diagnostics;
 mod documents;
 mod hover;
+mod related;
 mod settings;
 mod symbols;
 mod texts;
 mod told;
 
-pub use checker::{CheckOutcome, Checker, FlowTypes, ReportedFinding};
+pub use checker::{CheckOutcome, Checker, FlowTypes, ReportedFinding, ToldDetail};
 pub use definitions::definitions_of;
 pub use diagnostics::unknown_values;
 pub use documents::{Document, document_of, forget, index_of_document, put, remove};

@@ -13,6 +13,8 @@ pub struct Settings {
     pub codes_page: Option<String>,
     /// Whether the client pulls diagnostics. If so, none are published to it.
     pub pulls: bool,
+    /// Whether the client accepts related information. If not, diagnostics have none.
+    pub related: bool,
 }
 
 /// The severity of a warning. Language Server Protocol 3.17, "DiagnosticSeverity".

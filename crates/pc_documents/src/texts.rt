@@ -21,22 +21,23 @@ pub fn is_sent(settings: &Settings, document: &Document) -> bool
     document.python && !settings.pulls
 }
 
-/// Returns the diagnostics of a text, or a single one saying that the text is not known.
+/// Returns the diagnostics of the text of the document with this URI, or a single one saying that the text is not known.
 pub fn checked_text<C: Checker>(
     checker: &C,
     alloc: Global,
     settings: &Settings,
     text: &Option<String>,
+    uri: &str,
 ) -> Result<Vec<Value>, OutOfMemory>
     ensures { IfOk result (λ v. IsChecked (C.answers checker.now) (agreed_of settings.now)
-        (option_map string_bytes text.now) (map view v.items)) }
+        (option_map string_bytes text.now) uri.now (map view v.items)) }
 {
     match text {
         None => Ok(unknown_values(alloc)?),
         Some(text) => {
             let text = text.as_str();
             let found = checker.find(alloc, text)?;
-            let values = found_values(alloc, settings, text.as_bytes(), &found)?;
+            let values = found_values(alloc, settings, text.as_bytes(), uri, &found)?;
             Ok(values)
         }
     }
@@ -50,10 +51,11 @@ pub fn checked_as<C: Checker>(
     document: &Document,
 ) -> Result<Vec<Value>, OutOfMemory>
     ensures { IfOk result (λ v. IsCheckedAs (C.answers checker.now) (agreed_of settings.now) document.now.python
-        (option_map string_bytes document.now.text) (map view v.items)) }
+        (option_map string_bytes document.now.text) (string_bytes document.now.uri) (map view v.items)) }
 {
     if document.python {
-        let values = checked_text(checker, alloc, settings, &document.text)?;
+        let uri = document.uri.as_str();
+        let values = checked_text(checker, alloc, settings, &document.text, uri)?;
         Ok(values)
     } else {
         Ok(Vec::new(alloc))

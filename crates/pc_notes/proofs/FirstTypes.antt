@@ -13,7 +13,7 @@ use Rattle.pc_types.specs.declared.boxed.BoxType.{BoxType}
 use Rattle.pc_notes.specs.declared.notes.NoteEntry.{NoteEntry}
 use Rattle.pc_notes.specs.declared.notes.NoteEntry.TheVariants.{Told, Typed, Bound}
 use Rattle.pc_notes.specs.Notes.{Note, told, typed, named, is_same_place, kept_type, or_else, type_or, type_noted}
-use Rattle.pc_notes.specs.Notes.{note_of, entry_place, notes_of, kept_tree}
+use Rattle.pc_notes.specs.Notes.{note_of, entry_place, notes_of, shared_tree}
 use Rattle.pc_notes.specs.Texts.{place_cmp, HasFirstTypes}
 use Rattle.pc_notes.proofs.FirstFlows.{or_else_none, kept_first, none_first, some_mapped, place_same, self_tested}
 use Rattle.pc_notes.proofs.FirstFlows.{not_same}
@@ -41,7 +41,7 @@ other_place p k t h b e = rw (not_same p k h b e) refl
 
 other_at : (p : Place) (e : NoteEntry) → is_eq (place_cmp (entry_place e) p) ≡ false → type_or p (note_of e) None ≡ None
 other_at p (Told f flow) h = refl
-other_at p (Typed shown q t) h = other_place p q (kept_tree t) h (is_same_place p q) refl
+other_at p (Typed shown q t) h = other_place p q (shared_tree t) h (is_same_place p q) refl
 other_at p (Bound q t) h = refl
 
 none_kept : (p : Place) (e : NoteEntry) → kept_type e ≡ None → type_or p (note_of e) None ≡ None
@@ -88,7 +88,7 @@ new_place es e t old new is fresh step has =
 
     own_of : (x : NoteEntry) → kept_type x ≡ Some t.now → type_or (entry_place x) (note_of x) None ≡ Some (tree_of t.now)
     own_of (Told g flow) h = absurd (cc h)
-    own_of (Typed shown q g) h = own_if (is_same_place q q) (rc_value g) (self_tested q) cc
+    own_of (Typed shown q g) h = own_if (is_same_place q q) (rc_value g).ty (self_tested q) cc
     own_of (Bound q g) h = absurd (cc h)
 
     by : (p : Place) (b : Bool) → is_eq (place_cmp (entry_place e) p) ≡ b

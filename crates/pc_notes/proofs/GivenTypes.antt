@@ -7,7 +7,7 @@ use Rattle.pc_types.specs.Normal.{IsNormal}
 use Rattle.pc_types.specs.Shape.{nodes, node_limit}
 use Rattle.pc_types.specs.Boxed.{tree_of, IsGiven}
 use Rattle.pc_types.specs.declared.boxed.BoxType.{BoxType}
-use Rattle.pc_notes.specs.Notes.{AreGiven, IsGivenFlow, IsGivenPair, flow_types, is_same_place, kept_tree, notes_of}
+use Rattle.pc_notes.specs.Notes.{AreGiven, IsGivenFlow, IsGivenPair, flow_types, is_same_place, notes_of}
 use Rattle.pc_notes.specs.Notes.{pair_shown, shared_tree, type_noted}
 use Rattle.pc_notes.specs.declared.notes.NotedFlow.{NotedFlow}
 use Rattle.pc_notes.specs.declared.notes.NoteEntry.{NoteEntry}
@@ -32,7 +32,7 @@ type_given p (Bound q t ∷ es) h = type_given p es h.1
 type_given p (Typed shown q t ∷ es) h = go (is_same_place p q) (type_given p es h.1)
   where
     go : (b : Test) → IfSome (type_noted p (notes_of es)) IsGivenTree
-        → IfSome (if b then Some (kept_tree t) else type_noted p (notes_of es)) IsGivenTree
+        → IfSome (if b then Some (shared_tree t) else type_noted p (notes_of es)) IsGivenTree
     go true rest = (h.0.small, h.0.normal)
     go false rest = rest
 

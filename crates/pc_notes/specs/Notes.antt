@@ -59,13 +59,13 @@ shown_type (named p d c) = []
 abbrev pub types_of : List Note → List (Place × Tree)
 types_of notes = flat_map shown_type notes
 
--- the meaning of a shown type, with its place
-abbrev pub type_shown : Place × Bor BoxType → Place × Tree
-type_shown t = (t.0, tree_of t.1.now)
+-- the tree of a shared type
+abbrev pub shared_tree : Rc SharedType Global → Tree
+shared_tree t = tree_of (rc_value t).ty
 
--- the tree of a type that notes keep
-abbrev pub kept_tree : Rc BoxType Global → Tree
-kept_tree t = tree_of (rc_value t)
+-- a shared type is a type that a store of boxes may give
+abbrev pub IsGivenType : Rc SharedType Global → Type 0
+IsGivenType t = IsGiven (rc_value t).ty
 
 -- the bound name of a note, if it has one
 abbrev pub name_of_note : Note → List (Place × Tree × Option Tree)
@@ -76,10 +76,6 @@ name_of_note (named p d c) = (p, d, c) ∷ []
 -- the bound names of notes
 abbrev pub names_of_notes : List Note → List (Place × Tree × Option Tree)
 names_of_notes notes = flat_map name_of_note notes
-
--- the meaning of the types of a bound name, with its place
-abbrev pub name_shown : Place × Bor BoundTypes → Place × Tree × Option Tree
-name_shown n = (n.0, kept_tree n.1.now.declared, option_map kept_tree n.1.now.current)
 
 -- two places are the same
 abbrev pub is_same_place : Place → Place → Test
@@ -124,14 +120,6 @@ type_noted p (n ∷ ns) = type_or p n (type_noted p ns)
 abbrev pub pair_shown : Bor BoxType × Bor BoxType → Tree × Tree
 pair_shown t = (tree_of t.0.now, tree_of t.1.now)
 
--- the tree of a shared type
-abbrev pub shared_tree : SharedType → Tree
-shared_tree s = kept_tree s.ty
-
--- a shared type is a type that a store of boxes may give
-abbrev pub IsGivenType : SharedType → Type 0
-IsGivenType s = IsGiven (rc_value s.ty)
-
 -- the meaning of a kept flow
 abbrev pub flow_types : NotedFlow → Tree × Tree
 flow_types f = (shared_tree f.from, shared_tree f.into)
@@ -145,7 +133,7 @@ kept_flow c (Bound p t) = None
 -- the type of an entry, if it is that of a label, shown or not
 abbrev pub kept_type : NoteEntry → Option BoxType
 kept_type (Told f flow) = None
-kept_type (Typed shown p t) = Some (rc_value t)
+kept_type (Typed shown p t) = Some (rc_value t).ty
 kept_type (Bound p t) = None
 
 -- the place of an entry
@@ -157,8 +145,8 @@ entry_place (Bound p t) = p
 -- the meaning of an entry
 abbrev pub note_of : NoteEntry → Note
 note_of (Told f flow) = told f (option_map flow_types (option_map box_value flow))
-note_of (Typed shown p t) = typed shown p (kept_tree t)
-note_of (Bound p t) = named p (kept_tree (box_value t).declared) (option_map kept_tree (box_value t).current)
+note_of (Typed shown p t) = typed shown p (shared_tree t)
+note_of (Bound p t) = named p (shared_tree (box_value t).declared) (option_map shared_tree (box_value t).current)
 
 -- the meaning of entries
 abbrev pub notes_of : List NoteEntry → List Note
@@ -171,22 +159,14 @@ pub record IsGivenFlow (f : NotedFlow) : Type 0 where
 
 -- the types of a bound name are types that a store of boxes may give
 pub record IsGivenBound (b : BoundTypes) : Type 0 where
-  pub declared : IsGiven (rc_value b.declared)
-  pub current : IfSome b.current (λ t. IsGiven (rc_value t))
+  pub declared : IsGivenType b.declared
+  pub current : IfSome b.current IsGivenType
 
 -- the types that an entry keeps are types that a store of boxes may give
 abbrev pub IsGivenEntry : NoteEntry → Type 0
 IsGivenEntry (Told f flow) = IfSome (option_map box_value flow) IsGivenFlow
-IsGivenEntry (Typed shown p t) = IsGiven (rc_value t)
+IsGivenEntry (Typed shown p t) = IsGivenType t
 IsGivenEntry (Bound p t) = IsGivenBound (box_value t)
-
--- a shown type is one that a store of boxes may give
-abbrev pub IsGivenShown : Place × Bor BoxType → Type 0
-IsGivenShown t = IsGiven t.1.now
-
--- the types of a bound name, with its place, are ones that a store of boxes may give
-abbrev pub AreGivenBound : Place × Bor BoundTypes → Type 0
-AreGivenBound n = IsGivenBound n.1.now
 
 -- the types of all entries are types that a store of boxes may give
 abbrev pub AreGiven : List NoteEntry → Type 0

@@ -1,8 +1,9 @@
--- The flows that are noted with a code, with the texts of their types, one for each place.
+-- The flows that are noted with a code, with the texts of their types, one for each place; and the texts of the shown
+-- types, and of the types of bound names.
 -- Own rule of the profile.
 use denote.Bor.{Bor}
-use Rattle.std.specs.Prelude.{◌≡◌, ℕ, List, Contains, IsSome, IfSome, MatchOption, map, option_map}
-use Rattle.std.specs.Rc.{rc_str_bytes, rc_value}
+use Rattle.std.specs.Prelude.{◌≡◌, ℕ, List, Contains, Option, IsSome, IfSome, MatchOption, map, option_map}
+use Rattle.std.specs.Rc.{rc_str_bytes}
 use Rattle.std.specs.declared.rc.RcStr.{RcStr}
 use Rattle.std.specs.declared.alloc.Global.{Global}
 use Rattle.std.specs.declared.cmp.Ordering.{Ordering}
@@ -13,12 +14,13 @@ use Rattle.std.specs.List.Sorted.{IsStrictlySortedBy}
 use Rattle.pc_source.specs.declared.place.Place.{Place}
 use Rattle.pc_tree.specs.declared.code.Code.{Code}
 use Rattle.pc_tree.specs.Tree.{Module}
+use Rattle.pc_types.specs.Tree.{Tree}
 use Rattle.pc_types.specs.Boxed.{tree_of}
 use Rattle.pc_types.specs.declared.boxed.BoxType.{BoxType}
 use Rattle.pc_annotations.specs.Text.{type_text}
 use Rattle.pc_notes.specs.declared.notes.NotedFlow.{NotedFlow}
 use Rattle.pc_notes.specs.declared.sharing.NamedType.{NamedType}
-use Rattle.pc_notes.specs.Notes.{Note, flow_types, flow_noted, type_noted, IsGivenFlow}
+use Rattle.pc_notes.specs.Notes.{Note, flow_types, flow_noted, type_noted, IsGivenFlow, shared_tree}
 
 -- a place, with the texts of the type that flows there and of the type that it flows into
 abbrev pub FlowText : Type 0
@@ -60,8 +62,24 @@ HasFirstTypes notes types = (p : Place) → option_map (λ t. tree_of t.now) (ge
 
 -- the text kept with a type is the text of that type
 abbrev pub IsNamed : Module → NamedType → Type 0
-IsNamed m named = rc_str_bytes named.text ≡ type_text m (tree_of (rc_value named.ty))
+IsNamed m named = rc_str_bytes named.text ≡ type_text m (shared_tree named.shared)
 
 -- each type of a map, by its mark, has its text
 abbrev pub HaveTexts : Module → BTreeMap ℕ NamedType → Type 0
 HaveTexts m known = (mark : ℕ) → IfSome (get nat_cmp known mark) (IsNamed m)
+
+-- a place with a text
+abbrev pub text_shown : Place × RcStr Global → Place × List ℕ
+text_shown t = (t.0, rc_str_bytes t.1)
+
+-- the text of a type at its place
+abbrev pub type_text_at : Module → Place × Tree → Place × List ℕ
+type_text_at m t = (t.0, type_text m t.1)
+
+-- a place with the texts of a declared and of a current type
+abbrev pub texts_shown : Place × RcStr Global × Option (RcStr Global) → Place × List ℕ × Option (List ℕ)
+texts_shown n = (n.0, rc_str_bytes n.1, option_map rc_str_bytes n.2)
+
+-- the texts of the types of a bound name at its place
+abbrev pub name_texts_at : Module → Place × Tree × Option Tree → Place × List ℕ × Option (List ℕ)
+name_texts_at m n = (n.0, type_text m n.1, option_map (type_text m) n.2)

@@ -48,7 +48,7 @@ fn label_type(entry: &NoteEntry) -> Option<&BoxType>
     ensures { option_map (λ t. t.now) result ≡ kept_type entry.now }
 {
     match entry {
-        NoteEntry::Typed(_, _, ty) => Some(ty.as_ref()),
+        NoteEntry::Typed(_, _, shared) => Some(&shared.ty),
         _ => None,
     }
 }

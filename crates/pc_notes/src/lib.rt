@@ -6,5 +6,5 @@ mod notes;
 mod rebuilding;
 mod sharing;
 
-pub use notes::{BoundTypes, Notes};
+pub use notes::Notes;
 pub use rebuilding::transfer;

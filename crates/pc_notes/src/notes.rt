@@ -1,8 +1,9 @@
 //! Findings as they are gathered, each with the two types of the flow that it reports.
 
-ghost use Rattle.std.specs.Prelude.{◌≡◌, ◌++◌, ◌∷◌, [], map, All, IfOk, IfSome, List, OnOk, None, option_map};
+ghost use Rattle.std.specs.Prelude.{◌≡◌, ◌++◌, ◌∷◌, [], map, IfOk, IfSome, List, OnOk, None, option_map};
 ghost use Rattle.std.specs.Prelude.{if◌then◌else◌};
 ghost use Rattle.std.specs.Option.{option_copied};
+ghost use Rattle.std.specs.Rc.{rc_str_bytes};
 ghost use Rattle.pc_tree.specs.declared.code.Code.{Code as RustCode};
 ghost use Rattle.pc_tree.specs.Code.{finding};
 ghost use Rattle.pc_tree.specs.Tree.{module_of};
@@ -10,17 +11,19 @@ ghost use Rattle.std.specs.BTreeMap.{get};
 ghost use Rattle.pc_source.specs.declared.place.Place.{Place as PlaceOf};
 ghost use Rattle.pc_types.specs.Boxed.{IsGiven, tree_of};
 ghost use Rattle.pc_annotations.specs.Named.{named_module};
+ghost use Rattle.pc_annotations.specs.Text.{type_text};
 ghost use Rattle.pc_types.specs.Store.{KeepsTypes};
 ghost use Rattle.pc_notes.specs.Notes.{IsGivenEntry, Note, note_of, notes_of, plain_note, flow_note, typed};
 ghost use Rattle.pc_notes.specs.Notes.{is_same_place, is_same_code, entry_place, kept_flow, flow_noted, ExplainsFlow};
-ghost use Rattle.pc_notes.specs.Notes.{findings_of, types_of, type_shown, IsGivenShown, named, names_of_notes};
-ghost use Rattle.pc_notes.specs.Notes.{IsGivenPair, name_shown, AreGivenBound, type_noted, pair_shown, flow_types};
+ghost use Rattle.pc_notes.specs.Notes.{findings_of, types_of, named, names_of_notes, IsGivenBound, shared_tree};
+ghost use Rattle.pc_notes.specs.Notes.{IsGivenPair, type_noted, pair_shown, flow_types};
 ghost use Rattle.pc_notes.specs.declared.notes.NoteEntry.{NoteEntry as Kept};
-ghost use Rattle.pc_notes.specs.Texts.{AreFlowTexts, HasFirstFlows, HasGivenFlows, place_cmp};
+ghost use Rattle.pc_notes.specs.Texts.{AreFlowTexts, HasFirstFlows, HasGivenFlows, HaveTexts, place_cmp};
+ghost use Rattle.pc_notes.specs.Texts.{name_texts_at, text_shown, texts_shown, type_text_at};
 
 use crate::by_place::{first_types, types_of_flows};
 use crate::rebuilding::transfer;
-use crate::sharing::{SharedType, SharedTypes, shared_text};
+use crate::sharing::{NamedType, SharedType, SharedTypes, shared_text};
 use pc_annotations::ClassNames;
 use pc_source::{OutOfMemory, Place};
 use pc_tree::{Code, Finding, Findings, Module};
@@ -33,8 +36,8 @@ use std::rc::{Rc, RcStr};
 /// The two types of a flow: the one that flows, and the one that it flows into.
 #[derive(Drop)]
 pub(crate) struct NotedFlow {
-    pub(crate) from: SharedType,
-    pub(crate) into: SharedType,
+    pub(crate) from: Rc<SharedType>,
+    pub(crate) into: Rc<SharedType>,
 }
 
 impl NotedFlow {
@@ -48,9 +51,9 @@ impl NotedFlow {
 
 /// The types of a bound name: its declared type, and its current type after the binding, if it has a value then.
 #[derive(Drop)]
-pub struct BoundTypes {
-    pub declared: Rc<BoxType>,
-    pub current: Option<Rc<BoxType>>,
+pub(crate) struct BoundTypes {
+    pub(crate) declared: Rc<SharedType>,
+    pub(crate) current: Option<Rc<SharedType>>,
 }
 
 /// A finding, with the types of its flow if it reports one; or the type of a label; or the types of a bound name.
@@ -58,7 +61,7 @@ pub struct BoundTypes {
 pub(crate) enum NoteEntry {
     Told(Finding, Option<Box<NotedFlow>>),
     /// Whether it is shown, its place, and the type.
-    Typed(bool, Place, Rc<BoxType>),
+    Typed(bool, Place, Rc<SharedType>),
     /// The place of the name, and its types.
     Bound(Place, Box<BoundTypes>),
 }
@@ -201,7 +204,7 @@ impl Notes {
         requires { S.has store.now ty.now }
         ensures { OnOk result (notes_of self.new ≡ notes_of self.old ++ typed shown place (S.tree ty.now) ∷ []) }
     {
-        let SharedType { ty, .. } = self.types.shared(store, alloc, ty)?;
+        let ty = self.types.shared(store, alloc, ty)?;
         self.entries.push(NoteEntry::Typed(shown, place, ty))?;
         Ok(())
     }
@@ -220,13 +223,10 @@ impl Notes {
         ensures { OnOk result (notes_of self.new ≡ notes_of self.old
             ++ named place (S.tree declared.now) (option_map S.tree (option_copied current.entry)) ∷ []) }
     {
-        let SharedType { ty: declared, .. } = self.types.shared(store, alloc, declared)?;
+        let declared = self.types.shared(store, alloc, declared)?;
         let current = match current {
             None => None,
-            Some(ty) => {
-                let SharedType { ty, .. } = self.types.shared(store, alloc, ty)?;
-                Some(ty)
-            }
+            Some(ty) => Some(self.types.shared(store, alloc, ty)?),
         };
         let types = BoundTypes { declared, current };
         self.entries
@@ -247,32 +247,44 @@ impl Notes {
         Ok(findings)
     }
 
-    /// Returns the shown types, each with its place, in their order.
-    pub fn types(&self, alloc: Global) -> Result<Vec<(Place, &BoxType)>, OutOfMemory>
-        ensures types { IfOk result (λ v. map type_shown v.items ≡ types_of (notes_of self.now)) }
-        ensures given { IfOk result (λ v. All IsGivenShown v.items) }
+    /// Returns the shown types, each with its place and its text, in their order. Equal types of one mark share their text.
+    pub fn type_texts(
+        &self,
+        alloc: Global,
+        names: &ClassNames<'_>,
+    ) -> Result<Vec<(Place, RcStr)>, OutOfMemory>
+        ensures { IfOk result (λ v. map text_shown v.items
+            ≡ map (type_text_at (named_module names.now)) (types_of (notes_of self.now))) }
     {
-        let mut types = Vec::new(alloc);
+        let mut known = BTreeMap::new(alloc);
+        let mut texts = Vec::new(alloc);
         for entry in &self.entries {
             if let NoteEntry::Typed(true, place, ty) = entry {
-                types.push((*place, ty.as_ref()))?;
+                texts.push((*place, shared_text(&mut known, alloc, names, ty)?))?;
             }
         }
-        Ok(types)
+        Ok(texts)
     }
 
-    /// Returns the bound names, each with its place and its types, in their order.
-    pub fn names(&self, alloc: Global) -> Result<Vec<(Place, &BoundTypes)>, OutOfMemory>
-        ensures names { IfOk result (λ v. map name_shown v.items ≡ names_of_notes (notes_of self.now)) }
-        ensures given { IfOk result (λ v. All AreGivenBound v.items) }
+    /// Returns the bound names, each with its place and the texts of its types, in their order: that of its declared type,
+    /// and that of its current one, if it has a value. Equal types of one mark share their text.
+    pub fn name_texts(
+        &self,
+        alloc: Global,
+        names: &ClassNames<'_>,
+    ) -> Result<Vec<(Place, RcStr, Option<RcStr>)>, OutOfMemory>
+        ensures { IfOk result (λ v. map texts_shown v.items
+            ≡ map (name_texts_at (named_module names.now)) (names_of_notes (notes_of self.now))) }
     {
-        let mut names = Vec::new(alloc);
+        let mut known = BTreeMap::new(alloc);
+        let mut texts = Vec::new(alloc);
         for entry in &self.entries {
             if let NoteEntry::Bound(place, types) = entry {
-                names.push((*place, types.as_ref()))?;
+                let (declared, current) = texts_of_bound(&mut known, alloc, names, types)?;
+                texts.push((*place, declared, current))?;
             }
         }
-        Ok(names)
+        Ok(texts)
     }
 
     /// Returns the types of the first flow noted with a code at a place, as types of a store, or `None` if no such flow
@@ -372,6 +384,29 @@ fn keep_first<'n>(
     }
     flows.insert(place, flow)?;
     Ok(())
+}
+
+/// Returns the texts of the declared type of a bound name, and of its current one, if it has a value.
+fn texts_of_bound(
+    known: &mut BTreeMap<usize, NamedType>,
+    alloc: Global,
+    names: &ClassNames<'_>,
+    types: &BoundTypes,
+) -> Result<(RcStr, Option<RcStr>), OutOfMemory>
+    requires given { IsGivenBound types.now }
+    requires named { HaveTexts (named_module names.now) known.old }
+    ensures declared { IfOk result (λ t. rc_str_bytes t.0
+        ≡ type_text (named_module names.now) (shared_tree types.now.declared)) }
+    ensures current { IfOk result (λ t. option_map rc_str_bytes t.1
+        ≡ option_map (type_text (named_module names.now)) (option_map shared_tree types.now.current)) }
+    ensures named { OnOk result (HaveTexts (named_module names.now) known.new) }
+{
+    let declared = shared_text(known, alloc, names, &types.declared)?;
+    let current = match &types.current {
+        None => None,
+        Some(ty) => Some(shared_text(known, alloc, names, ty)?),
+    };
+    Ok((declared, current))
 }
 
 /// Returns the flows of a map in the order of their places, with the texts of their types.

@@ -16,17 +16,17 @@ use std::alloc::Global;
 use std::collections::BTreeMap;
 use std::rc::{Rc, RcStr};
 
-/// A noted type, which others may share, and the mark that its store gave it, by which equal ones are found.
+/// A noted type, and the mark that its store gave it, by which equal ones are found. Notes share it.
 #[derive(Drop)]
 pub(crate) struct SharedType {
     pub(crate) mark: usize,
-    pub(crate) ty: Rc<BoxType>,
+    pub(crate) ty: BoxType,
 }
 
 /// Types that may be shared: of each mark the one that was last asked for.
 #[derive(Drop)]
 pub(crate) struct SharedTypes {
-    known: BTreeMap<usize, Rc<BoxType>>,
+    known: BTreeMap<usize, Rc<SharedType>>,
 }
 
 impl SharedTypes {
@@ -43,7 +43,7 @@ impl SharedTypes {
         store: &S,
         alloc: Global,
         ty: &S::Ty,
-    ) -> Result<SharedType, OutOfMemory>
+    ) -> Result<Rc<SharedType>, OutOfMemory>
         requires { S.has store.now ty.now }
         ensures given { IfOk result IsGivenType }
         ensures value { IfOk result (λ t. shared_tree t ≡ S.tree ty.now) }
@@ -51,23 +51,21 @@ impl SharedTypes {
         let mark = store.mark(ty);
         let tree = store.boxed(ty);
         if let Some(known) = self.known.get(&mark) {
-            if is_alike(known, tree) {
-                return Ok(SharedType {
-                    mark,
-                    ty: known.clone()?,
-                });
+            if is_alike(&known.ty, tree) {
+                return Ok(known.clone()?);
             }
         }
-        let ty = Rc::new(alloc, BoxStore::new().copy(alloc, tree)?)?;
-        self.known.insert(mark, ty.clone()?)?;
-        Ok(SharedType { mark, ty })
+        let ty = BoxStore::new().copy(alloc, tree)?;
+        let shared = Rc::new(alloc, SharedType { mark, ty })?;
+        self.known.insert(mark, shared.clone()?)?;
+        Ok(shared)
     }
 }
 
 /// A type, and its text.
 #[derive(Drop)]
 pub(crate) struct NamedType {
-    ty: Rc<BoxType>,
+    shared: Rc<SharedType>,
     text: RcStr,
 }
 
@@ -76,7 +74,7 @@ pub(crate) fn shared_text(
     known: &mut BTreeMap<usize, NamedType>,
     alloc: Global,
     names: &ClassNames<'_>,
-    shared: &SharedType,
+    shared: &Rc<SharedType>,
 ) -> Result<RcStr, OutOfMemory>
     requires given { IsGivenType shared.now }
     requires named { HaveTexts (named_module names.now) known.old }
@@ -84,13 +82,13 @@ pub(crate) fn shared_text(
     ensures named { OnOk result (HaveTexts (named_module names.now) known.new) }
 {
     if let Some(named) = known.get(&shared.mark) {
-        if is_alike(&named.ty, &shared.ty) {
+        if is_alike(&named.shared.ty, &shared.ty) {
             return Ok(named.text.clone()?);
         }
     }
     let text = RcStr::from_string(named_text(&BoxStore::new(), alloc, names, &shared.ty)?)?;
     let named = NamedType {
-        ty: shared.ty.clone()?,
+        shared: shared.clone()?,
         text: text.clone()?,
     };
     known.insert(shared.mark, named)?;

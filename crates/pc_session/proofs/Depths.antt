@@ -1,6 +1,6 @@
 -- No reply nests deep, so the text of each reads back.
 use Rattle.std.specs.List.{AllZip}
-use Rattle.std.specs.Prelude.{codes, ℤ, Bool, false, filter, nat_le}
+use Rattle.std.specs.Prelude.{codes, ℤ, Bool, false, filter, nat_le, ◌==◌, ◌&&◌, not}
 use Rattle.std.proofs.Common.{◌≡◌, ℕ, ◌≤◌, suc, List, [], ◌∷◌, ◌++◌, map, Option, None, Some, true, refl, sym, subst}
 use Rattle.std.proofs.Common.{inl, inr, arith, zero, cond, take, length, ◌-◌}
 use Rattle.std.proofs.Math.Nat.{max-le, le-max_left, le-max_right, le_trans}
@@ -9,6 +9,7 @@ use Rattle.serde_json.specs.Data.{Data, null, boolean, number, string, array, ob
 use Rattle.serde_json.specs.Find.{get}
 use Rattle.serde_json.specs.Read.{max_depth}
 use Rattle.serde_json.specs.View.{items_of}
+use Rattle.pc_source.specs.declared.place.Place.{Place}
 use Rattle.pc_source.specs.Refusals.{code_text}
 use Rattle.pc_position.specs.declared.positions.Encoding.{Encoding}
 use Rattle.pc_tree.specs.Code.{text_of}
@@ -17,12 +18,13 @@ use Rattle.pc_documents.specs.declared.checker.CheckOutcome.{CheckOutcome}
 use Rattle.pc_documents.specs.CheckerAnswers.{CheckerAnswer}
 use Rattle.pc_documents.specs.declared.checker.CheckOutcome.TheVariants.{Items, Refused}
 use Rattle.pc_documents.specs.declared.checker.ReportedFinding.{ReportedFinding}
+use Rattle.pc_documents.specs.declared.checker.ToldDetail.{ToldDetail}
 use Rattle.pc_documents.specs.Agreed.{Agreed}
 use Rattle.pc_documents.specs.Anchors.{anchor_of, refusal_anchor_of, entry_at}
 use Rattle.pc_documents.specs.Checked.{IsChecked, IsCheckedAs, is_sent}
-use Rattle.pc_documents.specs.Diagnostics.{range_data, diagnostic_data, item_data, refusal_data, found_data}
-use Rattle.pc_documents.specs.Diagnostics.{severity_of, message_text, limited, more_data, unknown_data, start_of}
-use Rattle.pc_documents.specs.Diagnostics.{end_of}
+use Rattle.pc_documents.specs.Diagnostics.{range_data, place_data, related_to, related_data, diagnostic_data, item_data}
+use Rattle.pc_documents.specs.Diagnostics.{refusal_data, found_data, severity_of, message_text, limited, more_data}
+use Rattle.pc_documents.specs.Diagnostics.{unknown_data, start_of, end_of}
 use Rattle.pc_documents.specs.Documents.{OpenDocument}
 use Rattle.pc_documents.proofs.Defining.{definitions_as_low}
 use Rattle.pc_documents.proofs.Listing.{symbols_as_low}
@@ -60,75 +62,110 @@ up a b h = omega arith
 
 -- ---- values
 
--- a value of depth 0 to 7 is shallow
-low : (d : Data) (n : ℕ) → n ≤ 7 → depth d ≤ n → depth d ≤ max_depth
+-- a value of depth 0 to 9 is shallow
+low : (d : Data) (n : ℕ) → n ≤ 9 → depth d ≤ n → depth d ≤ max_depth
 low d n small h = omega arith
 
-diagnostic_depth : (page : Option (List ℕ)) (e : Encoding) (text : List ℕ) (start end severity : ℕ)
-    (code message : List ℕ)
-    → depth (diagnostic_data page (range_data e text start end) severity code message) ≡ 3
-diagnostic_depth None e text start end severity code message = refl
-diagnostic_depth (Some page) e text start end severity code message = refl
+-- a value that is there is no deeper than 5
+abbrev IsLowIfSome : Option Data → Type 0
+IsLowIfSome None = Unit {0}
+IsLowIfSome (Some d) = depth d ≤ 5
 
-items_low : (agreed : Agreed) (text : List ℕ) (items : List ReportedFinding)
-    → items_depth (items_of (map (item_data agreed text) items)) ≤ 3
-items_low agreed text [] = z 3
-items_low agreed text (item ∷ items) =
-    let is : depth (item_data agreed text item) ≡ 3 =
-    diagnostic_depth (entry_at agreed.codes_page (anchor_of item.finding.code)) agreed.encoding text
-    item.finding.place.start item.finding.place.end (severity_of agreed.dynamic_severity item.finding.code) (text_of item.finding.code)
-    (message_text item.finding.code item.flow) in
-    let first : depth (item_data agreed text item) ≤ 3 = omega (arith, is) in
-    max-le first (items_low agreed text items)
+places_low : (e : Encoding) (text uri : List ℕ) (places : List Place)
+    → items_depth (items_of (map (place_data e text uri) places)) ≤ 4
+places_low e text uri [] = z 4
+places_low e text uri (at ∷ places) =
+    let four : 4 ≤ 4 = omega arith in max-le four (places_low e text uri places)
+
+related_places_low : (agreed : Agreed) (text uri : List ℕ) (places : List Place)
+    → IsLowIfSome (related_to agreed text uri places)
+related_places_low agreed text uri places =
+    let entries : Data = array (items_of (map (place_data agreed.encoding text uri) places)) in
+    let M : Bool → Type 0 = λ b. IsLowIfSome (cond b (Some entries) None) in
+    elim (agreed.related && not (length places == 0)) as M
+    [ true ↦ up _ 4 (places_low agreed.encoding text uri places) | false ↦ tt ]
+
+related_low : (agreed : Agreed) (text uri : List ℕ) (detail : Option ToldDetail)
+    → IsLowIfSome (related_data agreed text uri detail)
+related_low agreed text uri None = tt
+related_low agreed text uri (Some detail) = related_places_low agreed text uri detail.others.items
+
+diagnostic_low : (page : Option (List ℕ)) (related : Option Data) (e : Encoding) (text : List ℕ)
+    (start end severity : ℕ) (code message : List ℕ) → IsLowIfSome related
+    → depth (diagnostic_data page related (range_data e text start end) severity code message) ≤ 6
+diagnostic_low None None e text start end severity code message h =
+    let is : depth (diagnostic_data None None (range_data e text start end) severity code message) ≡ 3 = refl in
+    omega (arith, is)
+diagnostic_low (Some page) None e text start end severity code message h =
+    let is : depth (diagnostic_data (Some page) None (range_data e text start end) severity code message) ≡ 3 = refl in
+    omega (arith, is)
+diagnostic_low None (Some related) e text start end severity code message h =
+    let range : 2 ≤ 5 = omega arith in
+    up _ 5 (max-le (z 5) (max-le (z 5) (max-le range (max-le h (max-le (z 5) (max-le (z 5) (z 5)))))))
+diagnostic_low (Some page) (Some related) e text start end severity code message h =
+    let link : 1 ≤ 5 = omega arith in
+    let range : 2 ≤ 5 = omega arith in
+    up _ 5 (max-le (z 5) (max-le link (max-le (z 5) (max-le range (max-le h (max-le (z 5) (max-le (z 5) (z 5))))))))
+
+items_low : (agreed : Agreed) (text uri : List ℕ) (items : List ReportedFinding)
+    → items_depth (items_of (map (item_data agreed text uri) items)) ≤ 6
+items_low agreed text uri [] = z 6
+items_low agreed text uri (item ∷ items) =
+    let first : depth (item_data agreed text uri item) ≤ 6 =
+    diagnostic_low (entry_at agreed.codes_page (anchor_of item.finding.code)) (related_data agreed text uri item.detail)
+    agreed.encoding text item.finding.place.start item.finding.place.end
+    (severity_of agreed.dynamic_severity item.finding.code) (text_of item.finding.code)
+    (message_text item.finding.code item.flow item.detail) (related_low agreed text uri item.detail) in
+    max-le first (items_low agreed text uri items)
 
 -- the first items, and one more
-first_low : (n : ℕ) (ds : List Data) (last : Data) → items_depth (items_of ds) ≤ 3 → depth last ≤ 3
-    → items_depth (items_of (take n ds ++ last ∷ [])) ≤ 3
-first_low zero ds last low one = max-le one (z 3)
-first_low (suc n) [] last low one = max-le one (z 3)
+first_low : (n : ℕ) (ds : List Data) (last : Data) → items_depth (items_of ds) ≤ 6 → depth last ≤ 6
+    → items_depth (items_of (take n ds ++ last ∷ [])) ≤ 6
+first_low zero ds last low one = max-le one (z 6)
+first_low (suc n) [] last low one = max-le one (z 6)
 first_low (suc n) (d ∷ ds) last low one =
-    let first : depth d ≤ 3 = le_trans (le-max_left (depth d) (items_depth (items_of ds))) low in
-    let others : items_depth (items_of ds) ≤ 3 = le_trans (le-max_right (depth d) (items_depth (items_of ds))) low in
+    let first : depth d ≤ 6 = le_trans (le-max_left (depth d) (items_depth (items_of ds))) low in
+    let others : items_depth (items_of ds) ≤ 6 = le_trans (le-max_right (depth d) (items_depth (items_of ds))) low in
     max-le first (first_low n ds last others one)
 
-limited_low : (ds : List Data) → items_depth (items_of ds) ≤ 3 → items_depth (items_of (limited ds)) ≤ 3
+limited_low : (ds : List Data) → items_depth (items_of ds) ≤ 6 → items_depth (items_of (limited ds)) ≤ 6
 limited_low ds low =
-    let Low : List Data → Type 0 = λ l. items_depth (items_of l) ≤ 3 in
+    let Low : List Data → Type 0 = λ l. items_depth (items_of l) ≤ 6 in
     let M : Bool → Type 0 = λ b. Low (cond b ds (take 999 ds ++ more_data (length ds - 999) ∷ [])) in
-    let one : depth (more_data (length ds - 999)) ≤ 3 = omega arith in
+    let one : depth (more_data (length ds - 999)) ≤ 6 = omega arith in
     elim (nat_le (length ds) 1000) as M [ true ↦ low | false ↦ first_low 999 ds (more_data (length ds - 999)) low one ]
 
-found_low : (agreed : Agreed) (text : List ℕ) (found : CheckOutcome)
-    → items_depth (items_of (found_data agreed text found)) ≤ 3
-found_low agreed text (Items items) =
-    limited_low (map (item_data agreed text) items.items) (items_low agreed text items.items)
-found_low agreed text (Refused refusal) =
-    let is : depth (refusal_data agreed text refusal) ≡ 3 =
-    diagnostic_depth (entry_at agreed.codes_page (refusal_anchor_of refusal.code)) agreed.encoding text
-    (start_of text refusal.byte) (end_of text refusal.byte) 1 (code_text refusal.code) (refusal_meaning_of refusal.code) in
-    let first : depth (refusal_data agreed text refusal) ≤ 3 = omega (arith, is) in
-    max-le first (z 3)
+found_low : (agreed : Agreed) (text uri : List ℕ) (found : CheckOutcome)
+    → items_depth (items_of (found_data agreed text uri found)) ≤ 6
+found_low agreed text uri (Items items) =
+    limited_low (map (item_data agreed text uri) items.items) (items_low agreed text uri items.items)
+found_low agreed text uri (Refused refusal) =
+    let first : depth (refusal_data agreed text refusal) ≤ 6 =
+    diagnostic_low (entry_at agreed.codes_page (refusal_anchor_of refusal.code)) None agreed.encoding text
+    (start_of text refusal.byte) (end_of text refusal.byte) 1 (code_text refusal.code) (refusal_meaning_of refusal.code)
+    tt in
+    max-le first (z 6)
 
-publish_low : (uri : List ℕ) (version : Option ℤ) (ds : List Data) → items_depth (items_of ds) ≤ 3
+publish_low : (uri : List ℕ) (version : Option ℤ) (ds : List Data) → items_depth (items_of ds) ≤ 6
     → depth (publish_data uri version ds) ≤ max_depth
 publish_low uri None ds h =
-    let listed : suc (items_depth (items_of ds)) ≤ 4 = up _ 3 h in
-    let params = up _ 4 (max-le listed (max-le (z 4) (z 4))) in
-    low (publish_data uri None ds) 6 (omega arith) (up _ 5 (max-le (z 5) (max-le (z 5) (max-le params (z 5)))))
+    let listed : suc (items_depth (items_of ds)) ≤ 7 = up _ 6 h in
+    let params = up _ 7 (max-le listed (max-le (z 7) (z 7))) in
+    low (publish_data uri None ds) 9 (omega arith) (up _ 8 (max-le (z 8) (max-le (z 8) (max-le params (z 8)))))
 publish_low uri (Some version) ds h =
-    let listed : suc (items_depth (items_of ds)) ≤ 4 = up _ 3 h in
-    let params = up _ 4 (max-le listed (max-le (z 4) (max-le (z 4) (z 4)))) in
-    low (publish_data uri (Some version) ds) 6 (omega arith)
-    (up _ 5 (max-le (z 5) (max-le (z 5) (max-le params (z 5)))))
+    let listed : suc (items_depth (items_of ds)) ≤ 7 = up _ 6 h in
+    let params = up _ 7 (max-le listed (max-le (z 7) (max-le (z 7) (z 7)))) in
+    low (publish_data uri (Some version) ds) 9 (omega arith)
+    (up _ 8 (max-le (z 8) (max-le (z 8) (max-le params (z 8)))))
 
 -- a line for the log has depth 2
 log_low : 2 ≤ max_depth
 log_low = omega arith
 
-result_low : (id result : Data) → depth id ≡ 0 → depth result ≤ 5 → depth (result_data id result) ≤ max_depth
+result_low : (id result : Data) → depth id ≡ 0 → depth result ≤ 8 → depth (result_data id result) ≤ max_depth
 result_low id result flat h =
-    let own : depth id ≤ 5 = omega arith in
-    low (result_data id result) 6 (omega arith) (up _ 5 (max-le own (max-le (z 5) (max-le h (z 5)))))
+    let own : depth id ≤ 8 = omega arith in
+    low (result_data id result) 9 (omega arith) (up _ 8 (max-le own (max-le (z 8) (max-le h (z 8)))))
 
 refusal_low : (code : ErrorCode) (id : Data) → depth id ≡ 0 → depth (refusal_of code id) ≤ max_depth
 refusal_low code id flat =
@@ -136,10 +173,10 @@ refusal_low code id flat =
     let told : 1 ≤ 1 = omega arith in
     low (refusal_of code id) 2 (omega arith) (up _ 1 (max-le told (max-le own (max-le (z 1) (z 1)))))
 
-full_low : (ds : List Data) → items_depth (items_of ds) ≤ 3 → depth (full_data ds) ≤ 5
+full_low : (ds : List Data) → items_depth (items_of ds) ≤ 6 → depth (full_data ds) ≤ 8
 full_low ds h =
-    let listed : suc (items_depth (items_of ds)) ≤ 4 = up _ 3 h in
-    up _ 4 (max-le listed (max-le (z 4) (z 4)))
+    let listed : suc (items_depth (items_of ds)) ≤ 7 = up _ 6 h in
+    up _ 7 (max-le listed (max-le (z 7) (z 7)))
 
 listed_low : (id : Data) (symbols : List Data) → depth id ≡ 0 → items_depth (items_of symbols) ≤ 5
     → depth (result_data id (symbols_data symbols)) ≤ max_depth
@@ -153,11 +190,11 @@ located_low : (id : Data) (definitions : List Data) → depth id ≡ 0 → items
 located_low id definitions flat h =
     let more : items_depth (items_of definitions) ≤ 5 = omega arith in listed_low id definitions flat more
 
-hover_low : (told : List ℕ) → depth (hover_data told) ≤ 5
-hover_low [] = z 5
+hover_low : (told : List ℕ) → depth (hover_data told) ≤ 8
+hover_low [] = z 8
 hover_low (byte ∷ bytes) = let is : depth (hover_data (byte ∷ bytes)) ≡ 2 = refl in omega (arith, is)
 
-capabilities_low : (encoding : Encoding) → depth (capabilities_data encoding) ≤ 5
+capabilities_low : (encoding : Encoding) → depth (capabilities_data encoding) ≤ 8
 capabilities_low encoding = let is : depth (capabilities_data encoding) ≡ 3 = refl in omega (arith, is)
 
 -- an identifier is no array and no object
@@ -191,7 +228,7 @@ answered : {reply : Data} {next new : State} {replies : List Data} → IsTurn (r
     → depth reply ≤ max_depth → AreShallow replies
 answered turn low = turned turn (low, tt)
 
-unknown_low : items_depth (items_of (unknown_data ∷ [])) ≤ 3
+unknown_low : items_depth (items_of (unknown_data ∷ [])) ≤ 6
 unknown_low = omega arith
 
 unknown_shallow : (documents : List OpenDocument) → AreShallow (map unknown_of documents)
@@ -201,7 +238,7 @@ unknown_shallow (document ∷ documents) =
 
 cleared_shallow : (pulls : Bool) (uri : List ℕ) → AreShallow (cleared pulls uri)
 cleared_shallow true uri = tt
-cleared_shallow false uri = (publish_low uri None [] (z 3), tt)
+cleared_shallow false uri = (publish_low uri None [] (z 6), tt)
 
 told_of_shallow : (documents : List OpenDocument) → AreShallow (told_of documents)
 told_of_shallow [] = tt
@@ -216,25 +253,25 @@ unreadable code old new replies turn = turned turn (
 )
 
 module _ (answers : List ℕ → CheckerAnswer → Type 0) where
-  checked_low : (agreed : Agreed) (text : Option (List ℕ)) (ds : List Data) → IsChecked answers agreed text ds
-      → items_depth (items_of ds) ≤ 3
-  checked_low agreed None ds checked =
-      subst (λ (l : List Data). items_depth (items_of l) ≤ 3) (sym checked) unknown_low
-  checked_low agreed (Some text) ds checked =
-      subst (λ (l : List Data). items_depth (items_of l) ≤ 3) (sym checked.are) (found_low agreed text checked.found)
+  checked_low : (agreed : Agreed) (text : Option (List ℕ)) (uri : List ℕ) (ds : List Data)
+      → IsChecked answers agreed text uri ds → items_depth (items_of ds) ≤ 6
+  checked_low agreed None uri ds checked =
+      subst (λ (l : List Data). items_depth (items_of l) ≤ 6) (sym checked) unknown_low
+  checked_low agreed (Some text) uri ds checked =
+      subst (λ (l : List Data). items_depth (items_of l) ≤ 6) (sym checked.are) (found_low agreed text uri checked.found)
 
-  checked_as_low : (agreed : Agreed) (python : Bool) (text : Option (List ℕ)) (ds : List Data)
-      → IsCheckedAs answers agreed python text ds → items_depth (items_of ds) ≤ 3
-  checked_as_low agreed false text ds checked =
-      subst (λ (l : List Data). items_depth (items_of l) ≤ 3) (sym checked) (z 3)
-  checked_as_low agreed true text ds checked = checked_low agreed text ds checked
+  checked_as_low : (agreed : Agreed) (python : Bool) (text : Option (List ℕ)) (uri : List ℕ) (ds : List Data)
+      → IsCheckedAs answers agreed python text uri ds → items_depth (items_of ds) ≤ 6
+  checked_as_low agreed false text uri ds checked =
+      subst (λ (l : List Data). items_depth (items_of l) ≤ 6) (sym checked) (z 6)
+  checked_as_low agreed true text uri ds checked = checked_low agreed text uri ds checked
 
   sent_where : (agreed : Agreed) (sent : Bool) (document : OpenDocument) (replies : List Data)
       → IsSentWhere answers agreed sent document replies → AreShallow replies
   sent_where agreed false document replies it = subst AreShallow (sym it) tt
   sent_where agreed true document replies it = subst AreShallow (sym it.are) (
     publish_low document.uri document.version it.diagnostics
-        (checked_low agreed document.text it.diagnostics it.is_checked),
+        (checked_low agreed document.text document.uri it.diagnostics it.is_checked),
     tt,
   )
 
@@ -309,8 +346,9 @@ module _ (answers : List ℕ → CheckerAnswer → Type 0) where
       let Low : Data → Type 0 = λ d. depth d ≤ max_depth in
       let low_reply : Low it.reply = elim it.is_reply [
         | inl of_it ↦
-            let listed : items_depth (items_of of_it.diagnostics) ≤ 3 =
-            checked_as_low old.agreed of_it.document.python of_it.document.text of_it.diagnostics of_it.is_checked in
+            let listed : items_depth (items_of of_it.diagnostics) ≤ 6 =
+            checked_as_low old.agreed of_it.document.python of_it.document.text of_it.document.uri of_it.diagnostics
+            of_it.is_checked in
             subst Low (sym of_it.replied) (result_low id (full_data of_it.diagnostics) flat
             (full_low of_it.diagnostics listed))
         | inr none ↦ subst Low (sym none.1) (refusal_low InvalidParams id flat)
@@ -355,7 +393,7 @@ module _ (answers : List ℕ → CheckerAnswer → Type 0) where
 
   running : (method : LspMethod) (id message : Data) (old new : State) (replies : List Data) → depth id ≡ 0
       → OnRunning answers method id message old replies new → AreShallow replies
-  running Shutdown id message old new replies flat h = answered h (result_low id null flat (z 5))
+  running Shutdown id message old new replies flat h = answered h (result_low id null flat (z 8))
   running Hover id message old new replies flat h = hovered message id old new replies flat h
   running Diagnostic id message old new replies flat h = pulled message id old new replies flat h
   running DocumentSymbol id message old new replies flat h = listed message id old new replies flat h

@@ -165,25 +165,25 @@ one_byte encoding text position (Some c) (Some d) a b = ap Some (last_bytes enco
 module _ (answers : List ℕ → CheckerAnswer → Type 0) (same : IsDetermined answers) where
   -- ---- diagnostics of a text
 
-  one_checked : (agreed : Agreed) (text : Option (List ℕ)) (a b : List Data) → IsChecked answers agreed text a
-      → IsChecked answers agreed text b → a ≡ b
-  one_checked agreed None a b x y = x ∙ sym y
-  one_checked agreed (Some text) a b x y =
-      x.are ∙ (same_diagnostics agreed text x.found y.found
+  one_checked : (agreed : Agreed) (text : Option (List ℕ)) (uri : List ℕ) (a b : List Data)
+      → IsChecked answers agreed text uri a → IsChecked answers agreed text uri b → a ≡ b
+  one_checked agreed None uri a b x y = x ∙ sym y
+  one_checked agreed (Some text) uri a b x y =
+      x.are ∙ (same_diagnostics agreed text uri x.found y.found
       (same text (outcome x.found) (outcome y.found) x.finds_it y.finds_it)
       ∙ sym y.are)
 
-  one_checked_as : (agreed : Agreed) (python : Bool) (text : Option (List ℕ)) (a b : List Data)
-      → IsCheckedAs answers agreed python text a → IsCheckedAs answers agreed python text b → a ≡ b
-  one_checked_as agreed false text a b x y = x ∙ sym y
-  one_checked_as agreed true text a b x y = one_checked agreed text a b x y
+  one_checked_as : (agreed : Agreed) (python : Bool) (text : Option (List ℕ)) (uri : List ℕ) (a b : List Data)
+      → IsCheckedAs answers agreed python text uri a → IsCheckedAs answers agreed python text uri b → a ≡ b
+  one_checked_as agreed false text uri a b x y = x ∙ sym y
+  one_checked_as agreed true text uri a b x y = one_checked agreed text uri a b x y
 
   one_sent : (sent : Bool) (agreed : Agreed) (document : OpenDocument) (a b : List Data)
       → IsSentWhere answers agreed sent document a → IsSentWhere answers agreed sent document b → a ≡ b
   one_sent false agreed document a b x y = x ∙ sym y
   one_sent true agreed document a b x y =
       x.are ∙ (ap (λ d. publish_data document.uri document.version d ∷ [])
-      (one_checked agreed document.text x.diagnostics y.diagnostics x.is_checked y.is_checked) ∙ sym y.are)
+      (one_checked agreed document.text document.uri x.diagnostics y.diagnostics x.is_checked y.is_checked) ∙ sym y.are)
 
   -- ---- the type at a position
 
@@ -218,10 +218,10 @@ module _ (answers : List ℕ → CheckerAnswer → Type 0) (same : IsDetermined 
   one_pulled : (message id : Data) (old : State) (a b : Data) → IsPulled answers message id old a
       → IsPulled answers message id old b → a ≡ b
   one_pulled message id old a b (inl x) (inl y) =
-      let Checks : OpenDocument → Type 0 = λ d. IsCheckedAs answers old.agreed d.python d.text x.diagnostics in
+      let Checks : OpenDocument → Type 0 = λ d. IsCheckedAs answers old.agreed d.python d.text d.uri x.diagnostics in
       let checked : Checks y.document = subst Checks (some_inj (sym x.named ∙ y.named)) x.is_checked in
       x.replied ∙ (ap (λ d. result_data id (full_data d)) (one_checked_as old.agreed y.document.python
-      y.document.text x.diagnostics y.diagnostics checked y.is_checked) ∙ sym y.replied)
+      y.document.text y.document.uri x.diagnostics y.diagnostics checked y.is_checked) ∙ sym y.replied)
   one_pulled message id old a b (inl x) (inr y) = absurd (some_none (sym x.named ∙ y.0))
   one_pulled message id old a b (inr x) (inl y) = absurd (some_none (sym y.named ∙ x.0))
   one_pulled message id old a b (inr x) (inr y) = x.1 ∙ sym y.1

@@ -165,7 +165,7 @@ module _ (answers : List ℕ → CheckerAnswer → Type 0) where
 
   -- a document is kept, and one list is sent, of it
   pub kept_some : (sent diagnostics : List Data) (document : OpenDocument) (old : State)
-      → IsChecked answers old.agreed document.text diagnostics → is_sent old.agreed document ≡ true
+      → IsChecked answers old.agreed document.text document.uri diagnostics → is_sent old.agreed document ≡ true
       → old.stage ≡ Running → Holds sent old
       → Holds (sent ++ publish_data document.uri document.version diagnostics ∷ [])
       (with_documents (with_document document old.documents) old)

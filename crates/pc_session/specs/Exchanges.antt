@@ -3,7 +3,6 @@
 use Rattle.std.specs.Prelude.{◌≡◌, ◌⊎◌, ℕ, Bool, true, false, List, [], ◌∷◌, ◌++◌}
 use Rattle.serde_json.specs.Data.{Data}
 use Rattle.pc_wire.specs.Frames.{IsShort, IsLong}
-use Rattle.pc_documents.specs.declared.checker.CheckOutcome.{CheckOutcome}
 use Rattle.pc_documents.specs.CheckerAnswers.{CheckerAnswer, AreConsistent}
 use Rattle.pc_session.specs.declared.replies.ErrorCode.TheVariants.{TooLong}
 use Rattle.pc_session.specs.Sessions.{IsTurn, IsUnreadable, Step, forgot}

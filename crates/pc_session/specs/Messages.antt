@@ -2,7 +2,7 @@
 use Rattle.std.specs.Prelude.{ℕ, ℤ, int_lt, Bool, true, false, ◌||◌, List, codes, Option, None, Some, bytes_eq}
 use Rattle.std.specs.Prelude.{if◌then◌else◌, is_some, unwrap_or, option_map, option_and_then}
 use Rattle.serde_json.specs.Data.{Data, Items, no_items, item}
-use Rattle.serde_json.specs.Find.{get, as_str, as_number, as_null, as_array, as_object, as_u64, as_i64}
+use Rattle.serde_json.specs.Find.{get, as_str, as_bool, as_number, as_null, as_array, as_object, as_u64, as_i64}
 use Rattle.pc_position.specs.declared.positions.Encoding.TheVariants.{Utf8, Utf16}
 use Rattle.pc_position.specs.declared.positions.Position.{Position}
 use Rattle.pc_documents.specs.Agreed.{Agreed}
@@ -127,13 +127,21 @@ abbrev pub pulls_in : Data → Bool
 pulls_in message = is_some (option_and_then as_object (option_and_then (get (codes "diagnostic"))
     (inside (codes "capabilities") (codes "textDocument") message)))
 
+-- the client accepts related information: `relatedInformation` of its `publishDiagnostics` is true. Diagnostics that are
+-- pulled have it by the same word: in Language Server Protocol 3.17 there is no other, `DiagnosticClientCapabilities` has
+-- none.
+abbrev pub accepts_related : Data → Bool
+accepts_related message = unwrap_or (option_and_then as_bool (option_and_then (get (codes "relatedInformation"))
+    (option_and_then (get (codes "publishDiagnostics"))
+    (inside (codes "capabilities") (codes "textDocument") message)))) false
+
 -- an option of the client
 abbrev pub option_in : List ℕ → Data → Option Data
 option_in name message = inside (codes "initializationOptions") name message
 
 -- the settings that `initialize` agrees on: UTF-8 if the client offers it, otherwise UTF-16; dynamic places are
 -- information if the client asks for it, otherwise warnings; the page that explains the codes; and whether the client
--- pulls diagnostics
+-- pulls diagnostics, and accepts related information
 abbrev pub agreed_in : Data → Agreed
 agreed_in message = record {
   encoding = if offers (codes "utf-8") message then Utf8 else Utf16;
@@ -141,4 +149,5 @@ agreed_in message = record {
       (option_in (codes "dynamicPlaces") message)) false then 3 else 2;
   codes_page = option_and_then as_str (option_in (codes "codesPage") message);
   pulls = pulls_in message;
+  related = accepts_related message;
 }

@@ -11,7 +11,7 @@ module _ (answers : List ℕ → CheckerAnswer → Type 0) (agreed : Agreed) whe
   -- one notification is sent, of the diagnostics of the document's text
   pub record IsSentOf (document : OpenDocument) (replies : List Data) : Type 0 where
     pub diagnostics : List Data
-    pub is_checked : IsChecked answers agreed document.text diagnostics
+    pub is_checked : IsChecked answers agreed document.text document.uri diagnostics
     pub are : replies ≡ publish_data document.uri document.version diagnostics ∷ []
 
   -- one notification is sent, or nothing is

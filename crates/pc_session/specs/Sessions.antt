@@ -227,7 +227,7 @@ module _ (answers : List ℕ → CheckerAnswer → Type 0) where
     pub document : OpenDocument
     pub named : named_document message old ≡ Some document
     pub diagnostics : List Data
-    pub is_checked : IsCheckedAs answers old.agreed document.python document.text diagnostics
+    pub is_checked : IsCheckedAs answers old.agreed document.python document.text document.uri diagnostics
     pub replied : reply ≡ result_data id (full_data diagnostics)
 
   -- the reply to a pull: the diagnostics of the document, or an error where the message names none that is open

@@ -57,7 +57,7 @@ module _ (answers : List ℕ → CheckerAnswer → Type 0) where
   -- the last publication for a document is that of the diagnostics of its text, with its version
   pub record ShowsText (agreed : Agreed) (sent : List Data) (document : OpenDocument) : Type 0 where
     pub diagnostics : List Data
-    pub is_checked : IsChecked answers agreed document.text diagnostics
+    pub is_checked : IsChecked answers agreed document.text document.uri diagnostics
     pub last : last_publication document.uri sent ≡ Some (publish_data document.uri document.version diagnostics)
 
   -- the last publication for a document is that of its text and version; or its text has not been known since a message

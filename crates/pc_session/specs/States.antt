@@ -21,11 +21,11 @@ state_of session = record {
   documents = map opened_of session.documents.items;
 }
 
--- the session that has not begun: UTF-16 until something is agreed, dynamic places as warnings, diagnostics are sent, and
--- no document is open
+-- the session that has not begun: UTF-16 until something is agreed, dynamic places as warnings, diagnostics are sent
+-- without related information, and no document is open
 abbrev pub fresh : State
 fresh = record {
   stage = Fresh;
-  agreed = record { encoding = Utf16; dynamic_severity = 2; codes_page = None; pulls = false };
+  agreed = record { encoding = Utf16; dynamic_severity = 2; codes_page = None; pulls = false; related = false };
   documents = [];
 }

@@ -25,8 +25,8 @@ pub(crate) fn published<C: Checker>(
     if !is_sent(settings, document) {
         return Ok(Vec::new(alloc));
     }
-    let diagnostics = checked_text(checker, alloc, settings, &document.text)?;
     let uri = document.uri.as_str();
+    let diagnostics = checked_text(checker, alloc, settings, &document.text, uri)?;
     let mut replies = Vec::with_capacity(alloc, 1)?;
     replies.push(publish(alloc, uri, document.version, diagnostics)?)?;
     Ok(replies)

@@ -63,6 +63,7 @@ impl Session {
                 dynamic_severity: WARNING,
                 codes_page: None,
                 pulls: false,
+                related: false,
             },
             documents: Vec::new(alloc),
         }

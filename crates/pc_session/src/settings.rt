@@ -4,6 +4,7 @@ ghost use Rattle.std.specs.Prelude.{◌≡◌, IfOk, option_map, string_bytes};
 ghost use Rattle.serde_json.specs.View.{view, items_view};
 ghost use Rattle.pc_documents.specs.Agreed.{agreed_of};
 ghost use Rattle.pc_session.specs.Messages.{is_text, has_text, offers, option_in, agreed_in, is_python, pulls_in};
+ghost use Rattle.pc_session.specs.Messages.{accepts_related};
 
 use crate::messages::{inside, parameter};
 use pc_documents::{Settings, WARNING};
@@ -114,6 +115,22 @@ fn pulls_in(message: &Value) -> bool
     }
 }
 
+/// Returns whether the client accepts related information in diagnostics.
+fn accepts_related(message: &Value) -> bool
+    ensures { result ≡ accepts_related (view message.now) }
+{
+    let Some(documents) = inside(message, "capabilities", "textDocument") else {
+        return false;
+    };
+    let Some(published) = documents.get("publishDiagnostics") else {
+        return false;
+    };
+    match published.get("relatedInformation") {
+        None => false,
+        Some(accepted) => accepted.as_bool().unwrap_or(false),
+    }
+}
+
 /// Returns the settings that an `initialize` request agrees on.
 pub(crate) fn settings_in(alloc: Global, message: &Value) -> Result<Settings, AllocError>
     ensures { IfOk result (λ settings. agreed_of settings ≡ agreed_in (view message.now)) }
@@ -124,6 +141,7 @@ pub(crate) fn settings_in(alloc: Global, message: &Value) -> Result<Settings, Al
         dynamic_severity: severity_in(message),
         codes_page,
         pulls: pulls_in(message),
+        related: accepts_related(message),
     })
 }
 

@@ -15,6 +15,7 @@ use Rattle.pc_tree.specs.contracts.code.FindingOrd.TheImpl.{cmp-value}
 use Rattle.pc_tree.specs.contracts.code.FindingOrd.TheImpl.Laws.{total-law}
 use Rattle.pc_tree.specs.declared.code.Code.{Code}
 use Rattle.pc_tree.specs.declared.code.Finding.{Finding}
+use Rattle.pc_tree.specs.Tree.{Module}
 use Rattle.pc_types.specs.Tree.{Tree}
 use Rattle.pc_detail_texts.specs.Details.{Detail}
 use Rattle.pc_detail_texts.specs.Sentences.{Words, sentence_of}
@@ -148,16 +149,18 @@ told_again : (f : Finding) (g : Detail Tree → Detail Words) (o : Option (Detai
 told_again f g None = refl
 told_again f g (Some d) = refl
 
+-- a finding is told what is listed of it
+pub told_alike : (m : Module) (f : Finding) → detail_told m (module_notes true m []) f ≡ listed_by (detail_in m) f
+told_alike m f = told_again f _ _
+
 pub all_left : (bytes : List ℕ) (report : DetailedReport) (h : DetailedHeadline bytes report)
     → AreLeft bytes (detail_in h.headline.whole) (row_findings report.report) report.details.items
 all_left bytes report h =
     let m = h.headline.whole in
     let findings = row_findings report.report in
-    let same : (f : Finding) → detail_told m (module_notes true m []) f ≡ listed_by (detail_in m) f =
-    λ f. told_again f _ _ in
     record {
       apart = distinct_in_order findings h.headline.listed.sorted;
-      exact = h.exact ∙ ap (λ (g : Finding → Option ListedDetail). filter_map g findings) (λ i f. same f i);
+      exact = h.exact ∙ ap (λ (g : Finding → Option ListedDetail). filter_map g findings) (λ i f. told_alike m f i);
       placed = h.placed;
     }
 

@@ -10,3 +10,4 @@ pub mod OneListing
 pub mod OneReport
 pub mod PrintedStream
 pub mod StreamBytes
+pub mod ToldRows

@@ -34,6 +34,11 @@ pub mapped_twice : {X Y Z : Type 0} (f : X → Y) (g : Y → Z) (xs : List X) �
 mapped_twice f g [] = refl
 mapped_twice f g (x ∷ xs) = ap (λ l. g (f x) ∷ l) (mapped_twice f g xs)
 
+-- two lists with equal meanings, each mapped by the same function of the meanings
+pub mapped_alike : {S T X Y : Type 0} (f : S → X) (g : T → X) (h : X → Y) (xs : List S) (ys : List T)
+    → map f xs ≡ map g ys → map (λ x. h (f x)) xs ≡ map (λ y. h (g y)) ys
+mapped_alike f g h xs ys e = sym (mapped_twice f h xs) ∙ ap (map h) e ∙ mapped_twice g h ys
+
 -- the names noted of a module, and those whose types are by annotations alone, are the names bound under its labels
 named_facts : (m : Module) (labels : Labelling m) → IsLawful m labels
     → map (name_fact m) (flat_map (names_declared m) m.items)

@@ -1,6 +1,8 @@
 pub mod BesideErrors
 pub mod DetailedBytes
 pub mod DetailedTexts
+pub mod DetailsWithin
+pub mod FactsOfTexts
 pub mod Headline
 pub mod NamesRead
 pub mod NoNeedlessFlow

@@ -1,4 +1,5 @@
--- For private clauses: the details that a report holds, as they are printed row by row. Own rule of the profile.
+-- The details that a report holds, as its rows go by; and for private clauses what is printed of each. Own rule of the
+-- profile.
 use Rattle.std.specs.Prelude.{◌≡◌, ℕ, List, [], ◌∷◌, ◌++◌, Option, Some, None, map, option_map, string_bytes, MatchOption, filter_map}
 use Rattle.std.specs.List.{AllByRecursion}
 use Rattle.pc_tree.specs.declared.code.Code.{Code}

@@ -50,6 +50,13 @@ impl DetailedReport {
         &self.report
     }
 
+    /// Returns the details, in the order of the rows.
+    pub fn details(&self) -> &[PlacedDetail]
+        ensures { result.now ≡ self.now.details.items }
+    {
+        &self.details
+    }
+
     /// Returns the report without the details.
     pub(crate) fn into_report(self) -> Report
         ensures { result ≡ self.report }
@@ -83,7 +90,7 @@ fn noted_details(
 }
 
 /// Returns the details of findings of a module, which differ.
-fn module_details(
+pub(crate) fn module_details(
     alloc: Global,
     module: &Module,
     found: &[Finding],
@@ -133,7 +140,7 @@ fn with_places(
 }
 
 /// Returns details with the lines and columns of the other places that they name.
-fn placed(
+pub(crate) fn placed(
     alloc: Global,
     source: &Source,
     details: Vec<DetailedFinding>,
@@ -149,7 +156,7 @@ fn placed(
 }
 
 /// Returns the findings of rows, in their order.
-fn findings_of(alloc: Global, rows: &[Row]) -> Result<Vec<Finding>, OutOfMemory>
+pub(crate) fn findings_of_rows(alloc: Global, rows: &[Row]) -> Result<Vec<Finding>, OutOfMemory>
     ensures { IfOk result (λ v. v.items ≡ row_findings rows.now) }
 {
     let mut found = Vec::new(alloc);
@@ -172,18 +179,24 @@ fn report_details(
         ≡ details_in (module_of «module».now) (row_findings report.now)) }
     ensures placed { IfOk result (λ v. AllByRecursion (HasOtherPositions source.now) v.items) }
 {
-    let found = findings_of(alloc, report.rows())?;
+    let found = findings_of_rows(alloc, report.rows())?;
     let details = module_details(alloc, module, &found)?;
     placed(alloc, source, details)
 }
 
 /// Returns the report of the module that a source spells.
-fn module_report(alloc: Global, source: &Source, module: &Module) -> Result<Report, OutOfMemory>
+pub(crate) fn module_report(
+    alloc: Global,
+    source: &Source,
+    module: &Module,
+) -> Result<Report, OutOfMemory>
     requires { IsModuleOf source.now (module_of «module».now) }
     ensures { IfOk result (Headline source.now) }
 {
     let checked = findings(alloc, module)?;
     let found = checked.found(alloc, module)?;
+    // The report is made in the memory that the notes occupied.
+    drop(checked);
     let report = Report::of(alloc, source, &found.findings, &found.flows)?;
     Ok(report)
 }

@@ -12,6 +12,7 @@ mod stream;
 mod teardown;
 mod top;
 mod types;
+mod within;
 
 pub use checking::findings_by;
 pub use detailed::{DetailedReport, PlacedDetail, check_explained};
@@ -19,7 +20,8 @@ pub use fault::CheckFault;
 pub use laws::{no_needless_flow, one_listing_of_types, one_report};
 pub use pc_front::read_module;
 pub use pc_report::{Format, Report, Row, TypeEntry, TypeKind, TypeListing, TypeRow};
-pub use printed::explain_stream;
+pub use printed::{explain_stream, next_detail};
 pub use stream::{FindingCounts, check_stream, types_stream};
 pub use top::check;
 pub use types::{type_at, types_of};
+pub use within::check_explained_within;

@@ -7,20 +7,20 @@ ghost use Rattle.pc_tree.specs.Tree.{ann_of, field_of, func_of, item_of, member_
 ghost use Rattle.pc_annotations.specs.Annotations.{read_option};
 ghost use Rattle.pc_annotations.specs.Bases.{bases_of};
 ghost use Rattle.pc_annotations.specs.Named.{named_module};
-ghost use Rattle.pc_annotations.specs.Text.{type_text};
-ghost use Rattle.pc_notes.specs.Notes.{AreGivenBound, IsGivenBound, kept_tree, name_shown, names_of_notes};
-ghost use Rattle.pc_notes.specs.Notes.{notes_of};
+ghost use Rattle.pc_notes.specs.Notes.{names_of_notes, notes_of};
+ghost use Rattle.pc_notes.specs.Texts.{texts_shown};
 ghost use Rattle.pc_module_rules.specs.NamesOfModules.{field_name, names_declared, names_in_head, names_in_member};
 ghost use Rattle.pc_report.specs.TypeListing.{fact_of};
+ghost use Rattle.pc_top.specs.FactsOfTexts.{name_texts_fact};
 ghost use Rattle.pc_top.specs.NamesRead.{IsNameReading, declared_name, module_read, noted_fact};
 ghost use Rattle.pc_top.specs.TypesOfBytes.{name_fact, other_text};
 
 use pc_annotations::{ClassNames, ModuleOutline, named_text, read_ann, read_option};
-use pc_notes::{BoundTypes, Notes};
+use pc_notes::Notes;
 use pc_report::{TypeEntry, TypeKind};
 use pc_source::{OutOfMemory, Place};
 use pc_tree::{Ann, Field, FuncDef, Item, ItemKind, Member, Name};
-use pc_types::{BoxStore, TypeStore};
+use pc_types::TypeStore;
 use std::alloc::Global;
 use std::rc::RcStr;
 
@@ -182,45 +182,32 @@ impl NameReading<'_> {
     }
 }
 
-/// Returns the text of the current type, if there is one and its text is another than that of the declared type.
-fn other_text(
-    alloc: Global,
-    names: &ClassNames<'_>,
-    declared: &str,
-    types: &BoundTypes,
-) -> Result<Option<RcStr>, OutOfMemory>
-    requires { IsGivenBound types.now }
+/// Returns the text of the current type, if there is one and it is another than that of the declared type.
+fn other_text(declared: &RcStr, current: &Option<RcStr>) -> Result<Option<RcStr>, OutOfMemory>
     ensures { IfOk result (λ o. option_map rc_str_bytes o
-        ≡ other_text declared.now (option_map (λ t. type_text (named_module names.now) (kept_tree t)) types.now.current)) }
+        ≡ other_text (rc_str_bytes declared.now) (option_map rc_str_bytes current.now)) }
 {
-    match &types.current {
+    match current {
         None => Ok(None),
-        Some(ty) => {
-            let text = named_text(&BoxStore::new(), alloc, names, ty)?;
-            if text.as_str() == declared {
+        Some(text) => {
+            if text.as_str() == declared.as_str() {
                 return Ok(None);
             }
-            Ok(Some(RcStr::from_string(text)?))
+            Ok(Some(text.clone()?))
         }
     }
 }
 
-/// Returns a noted name as an entry of a listing.
-fn name_entry(
-    alloc: Global,
-    names: &ClassNames<'_>,
-    noted: &(Place, &BoundTypes),
-) -> Result<TypeEntry, OutOfMemory>
-    requires { AreGivenBound noted.now }
-    ensures { IfOk result (λ e. fact_of e ≡ noted_fact (named_module names.now) (name_shown noted.now)) }
+/// Returns the texts of a noted name as an entry of a listing.
+fn name_entry(noted: &(Place, RcStr, Option<RcStr>)) -> Result<TypeEntry, OutOfMemory>
+    ensures { IfOk result (λ e. fact_of e ≡ name_texts_fact (texts_shown noted.now)) }
 {
-    let text = named_text(&BoxStore::new(), alloc, names, &noted.1.declared)?;
-    let current = other_text(alloc, names, text.as_str(), noted.1)?;
+    let (place, text, current) = noted;
     Ok(TypeEntry {
-        place: noted.0,
+        place: *place,
         kind: TypeKind::Name,
-        text: RcStr::from_string(text)?,
-        current,
+        text: text.clone()?,
+        current: other_text(text, current)?,
     })
 }
 
@@ -234,9 +221,9 @@ pub(crate) fn add_noted(
     ensures { OnOk result (map fact_of entries.new.items ≡ map fact_of entries.old.items
         ++ map (noted_fact (named_module names.now)) (names_of_notes (notes_of notes.now))) }
 {
-    let noted = notes.names(alloc)?;
+    let noted = notes.name_texts(alloc, names)?;
     for name in &noted {
-        entries.push(name_entry(alloc, names, name)?)?;
+        entries.push(name_entry(name)?)?;
     }
     Ok(())
 }

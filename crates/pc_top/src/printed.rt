@@ -61,7 +61,7 @@ fn push_row(text: &mut String, row: &Row, placed: Option<&PlacedDetail>) -> Resu
 }
 
 /// Returns the first of the details, if it is that of a finding, and the details that are left.
-fn next_detail<'d>(
+pub fn next_detail<'d>(
     details: &'d [PlacedDetail],
     finding: &Finding,
 ) -> (Option<&'d PlacedDetail>, &'d [PlacedDetail])

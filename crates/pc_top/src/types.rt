@@ -8,16 +8,18 @@ ghost use Rattle.pc_scope.specs.ModuleScopes.{AreScopes};
 ghost use Rattle.pc_annotations.specs.Named.{named_module};
 ghost use Rattle.pc_class.specs.Facts.{classes_of};
 ghost use Rattle.pc_class.specs.Tables.{HasEntries, classes_with};
-ghost use Rattle.pc_notes.specs.Notes.{IsGivenShown, notes_of, type_shown, types_of};
+ghost use Rattle.pc_notes.specs.Notes.{notes_of, types_of};
+ghost use Rattle.pc_notes.specs.Texts.{text_shown};
 ghost use Rattle.pc_module_rules.specs.Computed.Modules.{module_notes};
 ghost use Rattle.pc_module_rules.specs.NamesOfModules.{names_declared};
 ghost use Rattle.pc_front.specs.Bytes.{IsRefusalOf};
 ghost use Rattle.pc_report.specs.TypeListing.{TypeFact, fact_of};
+ghost use Rattle.pc_top.specs.FactsOfTexts.{type_text_fact};
 ghost use Rattle.pc_top.specs.TypesOfBytes.{IsTypeAt, IsTypeFact, ListsTypesOf, expression_fact, name_fact};
 
 use crate::checking::store_of;
 use crate::names::{NameReading, add_noted};
-use pc_annotations::{ClassNames, ModuleOutline, named_text, parents_of};
+use pc_annotations::{ClassNames, ModuleOutline, parents_of};
 use pc_check::check_module;
 use pc_class::{ClassTable, class_table};
 use pc_front::parse_source;
@@ -26,7 +28,7 @@ use pc_report::{TypeEntry, TypeKind, TypeListing, TypeRow};
 use pc_scope::{Scopes, scopes};
 use pc_source::{Fault, OutOfMemory, Place, read_source};
 use pc_tree::Module;
-use pc_types::{BoxStore, BoxType, TypeStore};
+use pc_types::TypeStore;
 use std::alloc::Global;
 use std::rc::RcStr;
 
@@ -94,20 +96,14 @@ pub(crate) fn notes_with_types(
     noted(&mut store, alloc, module, scopes)
 }
 
-/// Returns a shown type as an entry of a listing.
-fn entry_of(
-    alloc: Global,
-    names: &ClassNames<'_>,
-    shown: &(Place, &BoxType),
-) -> Result<TypeEntry, OutOfMemory>
-    requires { IsGivenShown shown.now }
-    ensures { IfOk result (λ e. fact_of e ≡ expression_fact (named_module names.now) (type_shown shown.now)) }
+/// Returns the text of a shown type as an entry of a listing.
+fn entry_of(shown: &(Place, RcStr)) -> Result<TypeEntry, OutOfMemory>
+    ensures { IfOk result (λ e. fact_of e ≡ type_text_fact (text_shown shown.now)) }
 {
-    let text = named_text(&BoxStore::new(), alloc, names, shown.1)?;
     Ok(TypeEntry {
         place: shown.0,
         kind: TypeKind::Expression,
-        text: RcStr::from_string(text)?,
+        text: shown.1.clone()?,
         current: None,
     })
 }
@@ -121,10 +117,10 @@ fn entries_of(
     ensures { IfOk result (λ v. map fact_of v.items
         ≡ map (expression_fact (named_module names.now)) (types_of (notes_of notes.now))) }
 {
-    let types = notes.types(alloc)?;
+    let types = notes.type_texts(alloc, names)?;
     let mut entries = Vec::with_capacity(alloc, types.len())?;
     for shown in &types {
-        entries.push(entry_of(alloc, names, shown)?)?;
+        entries.push(entry_of(shown)?)?;
     }
     Ok(entries)
 }

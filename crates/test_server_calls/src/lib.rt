@@ -2,6 +2,8 @@
 #![tactic(auto)]
 
 #[cfg(test)]
+mod detail_tests;
+#[cfg(test)]
 mod help_tests;
 #[cfg(test)]
 mod position_tests;

@@ -6,7 +6,7 @@ ghost use Rattle.pc_class.specs.Facts.{classes_of};
 ghost use Rattle.pc_class.specs.Tables.{HasEntries, classes_with};
 ghost use Rattle.pc_rules.specs.Computed.Standing.{HasIfAny, HasSignature};
 
-use pc_annotations::{ModuleOutline, parents_of, type_text};
+use pc_annotations::{ClassNames, ModuleOutline, parents_of, type_text};
 use pc_check::{check_module, explain_flow};
 use pc_class::{ClassTable, class_table};
 use pc_expr::check_expr;
@@ -109,10 +109,9 @@ fn types_text<S: TypeStore>(
 {
     let mut notes = Notes::new(alloc);
     check_module(store, alloc, tree, scopes, classes, true, &mut notes)?;
-    let boxes = BoxStore::new();
+    let names = ClassNames::of(alloc, tree)?;
     let mut text = String::new(alloc);
-    for (place, ty) in &notes.types(alloc)? {
-        let ty = type_text(&boxes, alloc, tree, ty)?;
+    for (place, ty) in &notes.type_texts(alloc, &names)? {
         write!(text, "{} {} {ty}; ", place.start, place.end)?;
     }
     Ok(text)

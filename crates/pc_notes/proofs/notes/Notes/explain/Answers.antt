@@ -3,6 +3,7 @@ use Rattle.std.specs.Prelude.{option_map}
 use Rattle.pc_types.specs.Boxed.{tree_of, IsGiven}
 use Rattle.pc_notes.specs.Notes.{IsGivenFlow, AreGiven}
 use Rattle.pc_notes.specs.declared.notes.NotedFlow.{NotedFlow}
+use Rattle.pc_notes.specs.declared.sharing.SharedType.{SharedType}
 use Rattle.pc_notes.proofs.Noted.{later_flow, this_flow, no_flow, given_at, entry_given}
 use Rattle.pc_notes.proofs.notes.Notes.explain.Goals as goal
 
@@ -14,7 +15,7 @@ transfer-requires g c =
     (entry_given c.deref-entry-items.result.now c.loop-entry.entry-index c.entry-item.result
     (subst AreGiven (sym c.deref-entry-items.ensures.value) c.self.invariant) c.loop-entry-test.true c.entry-item.is)
     s in
-    subst IsGiven (sym c.deref.ensures) given.from
+    subst (λ (s : SharedType). IsGiven s.ty) (sym c.deref.ensures) given.from
 
 pub transfer-requires-in-Some : goal.transfer-requires-in-Some
 transfer-requires-in-Some g c =
@@ -24,7 +25,7 @@ transfer-requires-in-Some g c =
     (entry_given c.deref-entry-items.result.now c.loop-entry.entry-index c.entry-item.result
     (subst AreGiven (sym c.deref-entry-items.ensures.value) c.self.invariant) c.loop-entry-test.true c.entry-item.is)
     s in
-    subst IsGiven (sym c.deref-in-Some.ensures) given.into
+    subst (λ (s : SharedType). IsGiven s.ty) (sym c.deref-in-Some.ensures) given.into
 
 pub returns-in_err-from-clause-kept : goal.returns-in_err-from-clause-kept
 returns-in_err-from-clause-kept g c = λ ty h. c.in_err-from.ensures.kept ty (c.loop-entry.invariant.kept ty h)
@@ -39,8 +40,8 @@ returns-in-Some-clause-value g c =
     let e = this_flow c.args.code c.args.place c.deref-entry-items.result.now c.loop-entry.entry-index
     c.entry-item.result
     c.loop-entry-test.true c.entry-item.is c.in-Some.flow.now s in
-    let from = c.in_ok-from.ensures.value.1 ∙ ap tree_of c.deref.ensures in
-    let into = c.in_ok-into.ensures.value.1 ∙ ap tree_of c.deref-in-Some.ensures in (
+    let from = c.in_ok-from.ensures.value.1 ∙ ap (λ (s : SharedType). tree_of s.ty) c.deref.ensures in
+    let into = c.in_ok-into.ensures.value.1 ∙ ap (λ (s : SharedType). tree_of s.ty) c.deref-in-Some.ensures in (
       c.in_ok-into.ensures.kept _ c.in_ok-from.ensures.value.0,
       c.in_ok-into.ensures.value.0,
       c.loop-entry.invariant.same ∙ e ∙ sym (λ i. Some (from i, into i)),
