@@ -4,7 +4,7 @@ use Rattle.std.specs.Prelude.{Bool, true, false, nat_lt, if◌then◌else◌, Op
 use Rattle.std.proofs.lemmas.Bool.Decides.{nat_tests}
 use Rattle.pc_tree.specs.Tree.{Name, ClassDef, Module}
 use Rattle.pc_scope.specs.declared.resolution.NameMeaning.{NameMeaning}
-use Rattle.pc_scope.specs.declared.resolution.NameMeaning.TheVariants as res
+use Rattle.pc_scope.specs.declared.resolution.NameMeaning.TheVariants as meaning
 use Rattle.pc_scope.specs.Bindings.{classes_in}
 use Rattle.pc_scope.specs.Resolution.{resolve_in_module}
 use Rattle.pc_types.specs.Below.{AreSmaller}
@@ -15,12 +15,12 @@ tested c b b' true e is = grind (arith, nat_tests)
 tested c b b' false e is = absurd (grind arith)
 
 earlier : (c b : ℕ) (r : NameMeaning) → earlier_class c r ≡ Some b → b < c
-earlier c b (res.Class d) is = tested c d b (nat_lt d c) refl is
-earlier c b (res.Local n) is = absurd (grind arith)
-earlier c b (res.Const n) is = absurd (grind arith)
-earlier c b (res.Func n) is = absurd (grind arith)
-earlier c b (res.Builtin x) is = absurd (grind arith)
-earlier c b res.None is = absurd (grind arith)
+earlier c b (meaning.Class d) is = tested c d b (nat_lt d c) refl is
+earlier c b (meaning.Local n) is = absurd (grind arith)
+earlier c b (meaning.Const n) is = absurd (grind arith)
+earlier c b (meaning.Func n) is = absurd (grind arith)
+earlier c b (meaning.Builtin x) is = absurd (grind arith)
+earlier c b meaning.None is = absurd (grind arith)
 
 named : (m : Module) (c b : ℕ) (n : Option Name) → base_named m c n ≡ Some b → b < c
 named m c b None is = absurd (grind arith)

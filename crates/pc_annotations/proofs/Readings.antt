@@ -10,7 +10,7 @@ use Rattle.pc_tree.specs.Tree as tree
 use Rattle.pc_scope.specs.declared.resolution.Builtin.{Builtin}
 use Rattle.pc_scope.specs.declared.resolution.Builtin.TheVariants as builtin
 use Rattle.pc_scope.specs.declared.resolution.NameMeaning.{NameMeaning}
-use Rattle.pc_scope.specs.declared.resolution.NameMeaning.TheVariants as res
+use Rattle.pc_scope.specs.declared.resolution.NameMeaning.TheVariants as meaning
 use Rattle.pc_scope.specs.Resolution.{resolve_in_module}
 use Rattle.pc_types.specs.Tree.{Tree, Any, Object, Never, Int, Str, Union}
 use Rattle.pc_types.specs.Below.{Bases, AreSmaller}
@@ -48,12 +48,12 @@ atom_good bases x builtin.Any = any_good bases x
 atom_good bases x _ = tt
 
 named_good : (bases : Bases) (x : Test) (r : NameMeaning) → IsNormalReducedIfAny bases (named_type x r)
-named_good bases x (res.Builtin b) = atom_good bases x b
-named_good bases x (res.Class c) = (tt, tt)
+named_good bases x (meaning.Builtin b) = atom_good bases x b
+named_good bases x (meaning.Class c) = (tt, tt)
 named_good bases x _ = tt
 
 empty_good : (bases : Bases) (r : NameMeaning) → IsNormalReducedIfAny bases (empty_type r)
-empty_good bases (res.Builtin builtin.Tuple) = (tt, tt)
+empty_good bases (meaning.Builtin builtin.Tuple) = (tt, tt)
 empty_good bases _ = tt
 
 -- each of several types is in normal form and without absorbed members
@@ -80,7 +80,7 @@ built_good bases _ _ w = tt
 
 applied_good : (bases : Bases) (r : NameMeaning) (ts : List Tree) → AreNormalReduced bases ts
     → IsNormalReducedIfAny bases (applied_type r ts)
-applied_good bases (res.Builtin b) ts w = built_good bases b ts w
+applied_good bases (meaning.Builtin b) ts w = built_good bases b ts w
 applied_good bases _ ts w = tt
 
 -- the parts of a union: any two of different heads, neither absorbing the other

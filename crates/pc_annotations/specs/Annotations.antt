@@ -12,7 +12,7 @@ use Rattle.pc_tree.specs.Depth.{place_of_ann}
 use Rattle.pc_scope.specs.declared.resolution.Builtin.{Builtin}
 use Rattle.pc_scope.specs.declared.resolution.Builtin.TheVariants as builtin
 use Rattle.pc_scope.specs.declared.resolution.NameMeaning.{NameMeaning}
-use Rattle.pc_scope.specs.declared.resolution.NameMeaning.TheVariants as res
+use Rattle.pc_scope.specs.declared.resolution.NameMeaning.TheVariants as meaning
 use Rattle.pc_scope.specs.Resolution.{resolve_in_module}
 use Rattle.pc_types.specs.Tree.{Tree, Any, Object, Never, Int, Bool, Str, NoneType, Class, ListOf, DictOf, TupleOf}
 use Rattle.pc_types.specs.Tree.{Union, end}
@@ -32,8 +32,8 @@ atom imports_any _ = None
 
 -- the type that a name means: a built-in type without arguments, or a class of the module
 abbrev pub named_type : (imports_any : Test) → NameMeaning → Option Tree
-named_type imports_any (res.Builtin b) = atom imports_any b
-named_type imports_any (res.Class c) = Some (Class c)
+named_type imports_any (meaning.Builtin b) = atom imports_any b
+named_type imports_any (meaning.Class c) = Some (Class c)
 named_type imports_any _ = None
 
 -- a dict type whose key is `int` or `str`
@@ -51,12 +51,12 @@ built_type _ _ = None
 
 -- the type of a name applied to arguments, if the name means a built-in that takes them
 abbrev pub applied_type : NameMeaning → List Tree → Option Tree
-applied_type (res.Builtin b) arguments = built_type b arguments
+applied_type (meaning.Builtin b) arguments = built_type b arguments
 applied_type _ arguments = None
 
 -- `tuple[()]`
 abbrev pub empty_type : NameMeaning → Option Tree
-empty_type (res.Builtin builtin.Tuple) = Some (TupleOf end)
+empty_type (meaning.Builtin builtin.Tuple) = Some (TupleOf end)
 empty_type _ = None
 
 -- a type that may be a member of a union: neither Any, object, Never nor a union
@@ -96,16 +96,16 @@ union_type bases parts = if is_union bases parts then Some (union (in_union_orde
 
 module _ (m : Module) (bases : Bases) where
   -- the meaning of a name in an annotation, in the module
-  abbrev meaning : Name → NameMeaning
-  meaning n = resolve_in_module m n.text
+  abbrev meant : Name → NameMeaning
+  meant n = resolve_in_module m n.text
 
   -- the type of an annotation, with each part that has E09 or E10 read as Any
   abbrev mutual
     pub reading : Ann → Tree
-    reading (named n) = unwrap_or (named_type m.imports_any (meaning n)) Any
+    reading (named n) = unwrap_or (named_type m.imports_any (meant n)) Any
     reading (none_type p) = NoneType
-    reading (applied p head arguments) = unwrap_or (applied_type (meaning head) (read_anns arguments)) Any
-    reading (applied_empty p head) = unwrap_or (empty_type (meaning head)) Any
+    reading (applied p head arguments) = unwrap_or (applied_type (meant head) (read_anns arguments)) Any
+    reading (applied_empty p head) = unwrap_or (empty_type (meant head)) Any
     reading (tree.union p parts) = unwrap_or (union_type bases (read_anns parts)) Any
 
     -- the types of several annotations
@@ -117,11 +117,11 @@ module _ (m : Module) (bases : Bases) where
   -- E09
   abbrev mutual
     pub PartFinds : Ann → Finding → Type 0
-    PartFinds (named n) f = MatchOption (named_type m.imports_any (meaning n)) (f ≡ finding n.place E09) (λ t. ⊥)
+    PartFinds (named n) f = MatchOption (named_type m.imports_any (meant n)) (f ≡ finding n.place E09) (λ t. ⊥)
     PartFinds (none_type p) f = ⊥
     PartFinds (applied p head arguments) f =
-        MatchOption (applied_type (meaning head) (read_anns arguments)) (f ≡ finding p E09) (λ t. PartsFind arguments f)
-    PartFinds (applied_empty p head) f = MatchOption (empty_type (meaning head)) (f ≡ finding p E09) (λ t. ⊥)
+        MatchOption (applied_type (meant head) (read_anns arguments)) (f ≡ finding p E09) (λ t. PartsFind arguments f)
+    PartFinds (applied_empty p head) f = MatchOption (empty_type (meant head)) (f ≡ finding p E09) (λ t. ⊥)
     PartFinds (tree.union p parts) f = MatchOption (union_type bases (read_anns parts)) (f ≡ finding p E10) (λ t. ⊥)
         ⊎ PartsFind parts f
 

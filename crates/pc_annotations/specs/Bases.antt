@@ -3,14 +3,14 @@
 use Rattle.std.specs.Prelude.{ℕ, suc, List, [], ◌∷◌, nat_lt, if◌then◌else◌, Option, Some, None}
 use Rattle.pc_tree.specs.Tree.{Name, ClassDef, Module}
 use Rattle.pc_scope.specs.declared.resolution.NameMeaning.{NameMeaning}
-use Rattle.pc_scope.specs.declared.resolution.NameMeaning.TheVariants as res
+use Rattle.pc_scope.specs.declared.resolution.NameMeaning.TheVariants as meaning
 use Rattle.pc_scope.specs.Bindings.{classes_in}
 use Rattle.pc_scope.specs.Resolution.{resolve_in_module}
 use Rattle.pc_types.specs.Below.{Bases}
 
 -- a class before the one with this number
 abbrev pub earlier_class : ℕ → NameMeaning → Option ℕ
-earlier_class c (res.Class b) = if nat_lt b c then Some b else None
+earlier_class c (meaning.Class b) = if nat_lt b c then Some b else None
 earlier_class c _ = None
 
 -- the number of the earlier class that the name of a base means, if there is one

@@ -9,7 +9,7 @@ use pc_source::OutOfMemory;
 use pc_types::{Head, TypeStore};
 use std::alloc::Global;
 
-/// Returns the rank of a type with this head among the members of a union, which stand in ascending order of ranks. The
+/// Returns the rank of a type with this head among the members of a union, which are in ascending order of ranks. The
 /// second number orders tuples by length and classes by number. (0, 0) if no member of a union has this head. Own rule
 /// of the profile.
 pub(crate) fn rank(head: Head) -> (usize, usize)

@@ -103,7 +103,11 @@ pub(crate) fn read<S: TypeStore>(
             let none = store.none(alloc)?;
             Ok(read_as(store, none))
         }
-        Ann::Apply(place, head, arguments) => {
+        Ann::Apply {
+            place,
+            head,
+            arguments,
+        } => {
             let before = found.len();
             let types = read_each(outline, store, alloc, found, arguments)?;
             let meaning = meaning(outline, head);

@@ -11,7 +11,7 @@ use Rattle.pc_bindings.specs.Mentions.{Scope, in_module, in_function, in_method,
 abbrev pub bound_in_function : FuncDef → List Name
 bound_in_function f = map name_of_param f.params ++ bound_by f.body
 
--- the names that can bind a name that stands there, the nearest scope first, each scope in text order
+-- the names that can bind a name in this scope, the nearest scope first, each scope in text order
 abbrev pub names_around : Module → Scope → List Name
 names_around m in_module = map name_of_item m.items
 names_around m (in_function f) = bound_in_function f ++ map name_of_item m.items

@@ -1,4 +1,4 @@
--- The names that stand in a module, each with its scope, in text order.
+-- The names that occur in a module, each with its scope, in text order.
 -- Language Reference 3.12, 4.2 "Naming and binding".
 use Rattle.std.specs.Prelude.{Bool, false, List, [], ◌∷◌, ◌++◌, Option, None, Some, codes, bytes_eq, if◌then◌else◌}
 use Rattle.pc_tree.specs.Tree.{Name, Expr, name, number, text, truth, nothing, tuple, list, dict, negative, negation}
@@ -11,19 +11,19 @@ use Rattle.pc_tree.specs.Tree.{Stmts, no_stmts, more_stmts, Branches, no_branche
 use Rattle.pc_tree.specs.Tree.{Member, field_member, method_member, ClassDef, Item, constant_item, class_item}
 use Rattle.pc_tree.specs.Tree.{def_item, Module}
 
--- where a name stands: in the module, in a function of it, in a method of a class, or as a member of a class
+-- the scope that a name occurs in: the module, a function of it, a method of a class, or the members of a class
 pub data Scope : Type 0 where
   in_module : Scope
   in_function : (f : FuncDef) → Scope
   in_method : (c : ClassDef) (f : FuncDef) → Scope
   of_class : (c : ClassDef) → Scope
 
--- a name, with where it stands
+-- a name, with the scope that it occurs in
 pub record Mention : Type 0 where
   pub scope : Scope
   pub name : Name
 
--- a name that stands there
+-- a name in this scope, alone
 abbrev pub mention_at : Scope → Name → Mention
 mention_at scope n = record { scope = scope; name = n }
 
@@ -184,7 +184,7 @@ abbrev pub in_items : List Item → List Mention
 in_items [] = []
 in_items (it ∷ rest) = in_item it ++ in_items rest
 
--- the names that stand in a module, in text order; the names of arguments by name, and of attributes of anything but
+-- the names that occur in a module, in text order; the names of arguments by name, and of attributes of anything but
 -- `self`, are left out
 abbrev pub mentions_in : Module → List Mention
 mentions_in m = in_items m.items

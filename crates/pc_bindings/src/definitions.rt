@@ -132,7 +132,7 @@ fn add_in_items<'m>(mentions: &mut Vec<Mention<'m>>, items: &'m [Item]) -> Resul
     Ok(())
 }
 
-/// Returns the names that stand in a module, each with its scope, in text order. The names of arguments by name are
+/// Returns the names that occur in a module, each with its scope, in text order. The names of arguments by name are
 /// left out, and of attributes all but those of `self`.
 pub fn mentions<'m>(alloc: Global, module: &'m Module) -> Result<Vec<Mention<'m>>, OutOfMemory>
     ensures { IfOk result (λ v. map mention_of v.items ≡ mentions_in (module_of module.now)) }

@@ -29,26 +29,41 @@ pub fn add_in_expr<'m>(
         Expr::List(_, items) => add_in_exprs(mentions, scope, items),
         Expr::Dict(_, entries) => add_in_entries(mentions, scope, entries),
         Expr::Negative(_, operand) | Expr::Not(_, operand) => add_in_expr(mentions, scope, operand),
-        Expr::Binary(_, _, left, right) => {
+        Expr::Binary { left, right, .. } => {
             add_in_expr(mentions, scope, left)?;
             add_in_expr(mentions, scope, right)
         }
-        Expr::Compare(_, _, left, right) => {
+        Expr::Compare { left, right, .. } => {
             add_in_expr(mentions, scope, left)?;
             add_in_expr(mentions, scope, right)
         }
         Expr::IsNone(_, operand) | Expr::IsNotNone(_, operand) => add_in_expr(
             mentions, scope, operand,
         ),
-        Expr::And(_, left, right) | Expr::Or(_, left, right) | Expr::Index(_, left, right) => {
+        Expr::And { left, right, .. }
+        | Expr::Or { left, right, .. }
+        | Expr::Index {
+            object: left,
+            key: right,
+            ..
+        } => {
             add_in_expr(mentions, scope, left)?;
             add_in_expr(mentions, scope, right)
         }
-        Expr::Attribute(_, object, field) => {
+        Expr::Attribute {
+            object,
+            name: field,
+            ..
+        } => {
             add_in_expr(mentions, scope, object)?;
             add_attribute(mentions, scope, object, field)
         }
-        Expr::Call(_, callee, arguments, by_name) => {
+        Expr::Call {
+            callee,
+            arguments,
+            keywords: by_name,
+            ..
+        } => {
             add_in_expr(mentions, scope, callee)?;
             add_in_exprs(mentions, scope, arguments)?;
             add_in_values(mentions, scope, by_name)
@@ -129,7 +144,11 @@ pub fn add_in_ann<'m>(mentions: &mut Vec<Mention<'m>>, ann: &'m Ann) -> Result<(
     match ann {
         Ann::Name(name) => add_name(mentions, Scope::Module, name),
         Ann::NoneValue(_) => Ok(()),
-        Ann::Apply(_, head, arguments) => {
+        Ann::Apply {
+            head,
+            arguments,
+            ..
+        } => {
             add_name(mentions, Scope::Module, head)?;
             add_in_anns(mentions, arguments)
         }

@@ -1,4 +1,4 @@
-//! The names that stand in a module, and the name that binds each.
+//! The names that occur in a module, and the name that binds each.
 #![tactic(auto)]
 
 mod binding;

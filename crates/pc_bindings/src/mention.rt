@@ -1,4 +1,4 @@
-//! Names, each with where it stands.
+//! Names, each with the scope that it occurs in.
 
 ghost use Rattle.std.specs.Prelude.{◌≡◌, ◌++◌, ◌∷◌, [], map, OnOk};
 ghost use Rattle.pc_tree.specs.Tree.{expr_of, name_of};
@@ -8,7 +8,7 @@ ghost use Rattle.pc_bindings.specs.Written.{scope_of, mention_of, borrowed_class
 use pc_source::OutOfMemory;
 use pc_tree::{ClassDef, Expr, FuncDef, Name};
 
-/// The scope that a name stands in: the module, a function of it, a method of a class, or the members of a class.
+/// The scope that a name occurs in: the module, a function of it, a method of a class, or the members of a class.
 /// Language Reference 4.2.2 "Resolution of names".
 #[derive(Clone, Copy, Debug)]
 pub enum Scope<'m> {
@@ -25,7 +25,7 @@ pub struct Mention<'m> {
     pub name: &'m Name,
 }
 
-/// Adds a name that stands in a scope.
+/// Adds a name that occurs in a scope.
 pub fn add_name<'m>(
     mentions: &mut Vec<Mention<'m>>,
     scope: Scope<'m>,

@@ -23,11 +23,15 @@ fn add_in_target<'m>(
 {
     match target {
         Target::Name(name) => add_name(mentions, scope, name),
-        Target::Attribute(_, object, field) => {
+        Target::Attribute {
+            object,
+            name: field,
+            ..
+        } => {
             add_in_expr(mentions, scope, object)?;
             add_attribute(mentions, scope, object, field)
         }
-        Target::Index(_, object, key) => {
+        Target::Index { object, key, .. } => {
             add_in_expr(mentions, scope, object)?;
             add_in_expr(mentions, scope, key)
         }
@@ -67,7 +71,11 @@ fn add_in_statement<'m>(
             add_in_expr(mentions, scope, condition)?;
             add_in_option(mentions, scope, message)
         }
-        StmtKind::Annotated(name, annotation, value) => {
+        StmtKind::Annotated {
+            target: name,
+            annotation,
+            value,
+        } => {
             add_name(mentions, scope, name)?;
             add_in_ann(mentions, annotation)?;
             add_in_option(mentions, scope, value)
@@ -81,7 +89,11 @@ fn add_in_statement<'m>(
             add_in_expr(mentions, scope, condition)?;
             add_in_body(mentions, scope, body)
         }
-        StmtKind::For(name, iterable, body) => {
+        StmtKind::For {
+            target: name,
+            iterable,
+            body,
+        } => {
             add_loop_head(mentions, scope, name, iterable)?;
             add_in_body(mentions, scope, body)
         }

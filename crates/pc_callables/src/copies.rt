@@ -1,5 +1,5 @@
 //! Copies of the signatures of a class table's methods.
-#![tactic(auto, using(pc_rules::proofs::Checkers::goes_further))]
+#![tactic(auto, using(pc_rules::proofs::TypingStates::goes_further))]
 
 ghost use Rattle.std.specs.Prelude.{All, IfOk};
 ghost use Rattle.pc_class.specs.Tables.{HasParameter, HasMethod, parameter_with, parameters_with, method_with};

@@ -1,5 +1,5 @@
 //! Defaults of parameters and fields.
-#![tactic(auto, using(pc_rules::proofs::Checkers::goes_further))]
+#![tactic(auto, using(pc_rules::proofs::TypingStates::goes_further))]
 
 ghost use Rattle.std.specs.Prelude.{◌≡◌, ◌∷◌, [], map, All, IfOk, OnOk};
 ghost use Rattle.pc_tree.specs.Tree.{literal_of, option_literal_of, param_of};
@@ -14,7 +14,7 @@ ghost use Rattle.pc_rules.specs.Signatures.{literal_type};
 ghost use Rattle.pc_rules.specs.Computed.Signatures.{is_in_names, binds_text, literal_findings, default_findings};
 ghost use Rattle.pc_rules.specs.Computed.Signatures.{params_defaults};
 ghost use Rattle.pc_rules.specs.Computed.Standing.{MeansLabel, label_with};
-ghost use Rattle.pc_rules.specs.Computed.Checkers.{AddsNotes, CheckerKept};
+ghost use Rattle.pc_rules.specs.Computed.TypingStates.{AddsNotes, StateKept};
 
 use crate::bound::{BoundNames, bind, is_bound};
 use pc_annotations::ModuleOutline;
@@ -71,59 +71,59 @@ fn literal_label<S: TypeStore>(
 
 /// Checks the flow of a labelled expression at this place into one type, and appends the finding, if there is one.
 pub fn find_into<S: TypeStore>(
-    checker: &mut TypingState<'_, S>,
+    state: &mut TypingState<'_, S>,
     parents: &Parents,
     place: Place,
     label: &Label<S::Ty>,
     into: &S::Ty,
 ) -> Result<(), OutOfMemory>
-    requires label { S.has checker.old.store.now label.now.ty }
-    requires into { S.has checker.old.store.now into.now }
+    requires label { S.has state.old.store.now label.now.ty }
+    requires into { S.has state.old.store.now into.now }
     ensures found { (m : LabelOf) → label_with S.tree label.now ≡ brief m
-        → OnOk result (AddsNotes checker.old checker.new
+        → OnOk result (AddsNotes state.old state.new
         (flows_at place (flows_of parents.now m (S.tree into.now ∷ [])))) }
-    ensures goes_on { CheckerKept S.TypeStore checker.old checker.new }
+    ensures goes_on { StateKept S.TypeStore state.old state.new }
 {
-    find_flow(checker, parents, place, label, into)?;
+    find_flow(state, parents, place, label, into)?;
     Ok(())
 }
 
 /// Checks the flow of a default's literal into its type, and appends the finding, if there is one.
 fn find_literal<S: TypeStore>(
-    checker: &mut TypingState<'_, S>,
+    state: &mut TypingState<'_, S>,
     parents: &Parents,
     literal: &Literal,
     into: &S::Ty,
 ) -> Result<(), OutOfMemory>
-    requires { S.has checker.old.store.now into.now }
-    ensures found { OnOk result (AddsNotes checker.old checker.new
+    requires { S.has state.old.store.now into.now }
+    ensures found { OnOk result (AddsNotes state.old state.new
         (literal_findings parents.now (literal_of literal.now) (S.tree into.now))) }
-    ensures goes_on { CheckerKept S.TypeStore checker.old checker.new }
+    ensures goes_on { StateKept S.TypeStore state.old state.new }
 {
-    let label = literal_label(checker.store, checker.alloc, literal)?;
-    find_into(checker, parents, literal.place, &label, into)
+    let label = literal_label(state.store, state.alloc, literal)?;
+    find_into(state, parents, literal.place, &label, into)
 }
 
 /// Checks the flow of a default into its type, and appends the finding at the literal, if there is one. Nothing flows
 /// if there is no default or its name is not bound. Language Reference 3.12, 8.7 "Function definitions"; library
 /// reference, `dataclasses`.
 pub(crate) fn find_default<S: TypeStore>(
-    checker: &mut TypingState<'_, S>,
+    state: &mut TypingState<'_, S>,
     parents: &Parents,
     binds: bool,
     default: &Option<Literal>,
     into: &S::Ty,
 ) -> Result<(), OutOfMemory>
-    requires { S.has checker.old.store.now into.now }
-    ensures found { OnOk result (AddsNotes checker.old checker.new
+    requires { S.has state.old.store.now into.now }
+    ensures found { OnOk result (AddsNotes state.old state.new
         (default_findings parents.now binds (option_literal_of default.now) (S.tree into.now))) }
-    ensures goes_on { CheckerKept S.TypeStore checker.old checker.new }
+    ensures goes_on { StateKept S.TypeStore state.old state.new }
 {
     match default {
         None => Ok(()),
         Some(literal) => {
             if binds {
-                find_literal(checker, parents, literal, into)
+                find_literal(state, parents, literal, into)
             } else {
                 Ok(())
             }
@@ -134,25 +134,25 @@ pub(crate) fn find_default<S: TypeStore>(
 /// Checks the defaults of parameters of these types, after names that are already bound. Appends the findings, and adds
 /// the names of the parameters to the bound ones.
 pub(crate) fn find_defaults<S: TypeStore>(
-    checker: &mut TypingState<'_, S>,
+    state: &mut TypingState<'_, S>,
     outline: &ModuleOutline,
     bound: &mut BoundNames,
     params: &[Param],
     typed: &[Parameter<S::Ty>],
 ) -> Result<(), OutOfMemory>
     requires outline { IsModuleOutline outline.now }
-    requires given { All (HasParameter (S.has checker.old.store.now)) typed.now }
+    requires given { All (HasParameter (S.has state.old.store.now)) typed.now }
     requires same { parameters_with S.tree typed.now ≡ parameters_of (module_in outline.now) (map param_of params.now) }
-    ensures found { OnOk result (AddsNotes checker.old checker.new
+    ensures found { OnOk result (AddsNotes state.old state.new
         (params_defaults (module_in outline.now) (is_in_names bound.old) (map param_of params.now))) }
-    ensures goes_on { CheckerKept S.TypeStore checker.old checker.new }
+    ensures goes_on { StateKept S.TypeStore state.old state.new }
 {
     for number in 0..params.len() {
         let param = &params[number];
         let binds = binds(bound, param.name.text.as_str());
         let ty = &typed[number].ty;
-        find_default(checker, outline.parents, binds, &param.default, ty)?;
-        bind(bound, checker.alloc, param.name.text.as_str())?;
+        find_default(state, outline.parents, binds, &param.default, ty)?;
+        bind(bound, state.alloc, param.name.text.as_str())?;
     }
     Ok(())
 }

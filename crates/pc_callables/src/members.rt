@@ -1,5 +1,5 @@
 //! The members of classes, in text order. The class table has the types of those that bind their names.
-#![tactic(auto, using(pc_rules::proofs::Checkers::goes_further))]
+#![tactic(auto, using(pc_rules::proofs::TypingStates::goes_further))]
 
 ghost use Rattle.std.specs.Prelude.{◌≡◌, ◌++◌, ◌∷◌, [], if◌then◌else◌, map, None, is_some, IfOk, OnOk};
 ghost use Rattle.std.specs.Option.{option_map};
@@ -14,7 +14,7 @@ ghost use Rattle.pc_rules.specs.Signatures.{signature_of};
 ghost use Rattle.pc_rules.specs.Computed.Signatures.{is_in_names, base_has_member, binds_as_field, binds_as_method};
 ghost use Rattle.pc_rules.specs.Computed.Signatures.{field_default, method_findings, member_findings, members_findings};
 ghost use Rattle.pc_rules.specs.Computed.Signatures.{no_name};
-ghost use Rattle.pc_rules.specs.Computed.Checkers.{AddsNotes, CheckerKept};
+ghost use Rattle.pc_rules.specs.Computed.TypingStates.{AddsNotes, StateKept};
 ghost use Rattle.pc_callables.specs.MembersHeld.{IsHeld, AreHeld};
 ghost use Rattle.pc_callables.specs.SignaturesRead.{AreGlobals, AreSignatures, HasSignatures};
 ghost use Rattle.pc_callables.specs.SignaturesRead.{IsSignature, signatures_with};
@@ -133,28 +133,28 @@ fn held_method<'t, Ty: Drop>(
 /// Checks the default of a field of a class: its flow into the type that the class table has. Appends the finding, if
 /// there is one; those in the annotation come with the class table.
 fn check_field<S: TypeStore>(
-    checker: &mut TypingState<'_, S>,
+    state: &mut TypingState<'_, S>,
     globals: &ModuleContext<'_, S::Ty>,
     class: ClassNumbers,
     bound: &BoundNames,
     field: &Field,
 ) -> Result<(), OutOfMemory>
-    requires globals { AreGlobals S.has S.tree checker.old.store.now globals.now }
+    requires globals { AreGlobals S.has S.tree state.old.store.now globals.now }
     requires held { IsHeld (module_in globals.now.outline.now) class.number
         (base_facts (classes_of (module_in globals.now.outline.now)) class.base) (is_in_names bound.now)
         (field_member (field_of field.now)) }
-    ensures found { OnOk result (AddsNotes checker.old checker.new
+    ensures found { OnOk result (AddsNotes state.old state.new
         (field_default (module_in globals.now.outline.now)
         (base_facts (classes_of (module_in globals.now.outline.now)) class.base) (is_in_names bound.now)
         (field_of field.now))) }
-    ensures goes_on { CheckerKept S.TypeStore checker.old checker.new }
+    ensures goes_on { StateKept S.TypeStore state.old state.new }
 {
     match held_field(globals.classes, class, bound, field.name.text.as_str()) {
         // Nothing flows into a field that binds no name.
         None => Ok(()),
         Some(held) => {
             let parents = globals.outline.parents;
-            find_default(checker, parents, true, &field.default, &held.ty)
+            find_default(state, parents, true, &field.default, &held.ty)
         }
     }
 }
@@ -163,34 +163,34 @@ fn check_field<S: TypeStore>(
 /// the class table has its types and the findings in its annotations; else its annotations are read here and their
 /// findings appended too.
 fn read_method<S: TypeStore>(
-    checker: &mut TypingState<'_, S>,
+    state: &mut TypingState<'_, S>,
     globals: &ModuleContext<'_, S::Ty>,
     class: ClassNumbers,
     bound: &BoundNames,
     def: &FuncDef,
 ) -> Result<Signature<S::Ty>, OutOfMemory>
-    requires globals { AreGlobals S.has S.tree checker.old.store.now globals.now }
+    requires globals { AreGlobals S.has S.tree state.old.store.now globals.now }
     requires held { IsHeld (module_in globals.now.outline.now) class.number
         (base_facts (classes_of (module_in globals.now.outline.now)) class.base) (is_in_names bound.now)
         (method_member (func_of def.now)) }
     ensures typed { IfOk result
-        (λ s. IsSignature S.has S.tree checker.new.store.now s
+        (λ s. IsSignature S.has S.tree state.new.store.now s
         (signature_of (module_in globals.now.outline.now) (func_of def.now))) }
-    ensures found { OnOk result (AddsNotes checker.old checker.new
+    ensures found { OnOk result (AddsNotes state.old state.new
         (method_findings (module_in globals.now.outline.now)
         (binds_as_method (base_facts (classes_of (module_in globals.now.outline.now)) class.base) (is_in_names bound.now)
         (func_of def.now).name.text) (func_of def.now))) }
-    ensures goes_on { CheckerKept S.TypeStore checker.old checker.new }
+    ensures goes_on { StateKept S.TypeStore state.old state.new }
 {
     let outline = globals.outline;
-    let mut names = IndexSet::with_hasher(checker.alloc, outline.tree.keys);
-    bind(&mut names, checker.alloc, "self")?;
+    let mut names = IndexSet::with_hasher(state.alloc, outline.tree.keys);
+    bind(&mut names, state.alloc, "self")?;
     match held_method(globals.classes, class, bound, def.name.text.as_str()) {
-        None => read_signature(checker, outline, &mut names, def),
+        None => read_signature(state, outline, &mut names, def),
         Some(held) => {
-            let signature = copy_signature(checker.store, checker.alloc, outline.tree.keys, held)?;
+            let signature = copy_signature(state.store, state.alloc, outline.tree.keys, held)?;
             let typed = signature.params.as_slice();
-            find_defaults(checker, outline, &mut names, &def.params, typed)?;
+            find_defaults(state, outline, &mut names, &def.params, typed)?;
             Ok(signature)
         }
     }
@@ -198,33 +198,33 @@ fn read_method<S: TypeStore>(
 
 /// Checks a member of a class and appends its findings. The signature of a method is appended to `methods`.
 fn add_member<S: TypeStore>(
-    checker: &mut TypingState<'_, S>,
+    state: &mut TypingState<'_, S>,
     globals: &ModuleContext<'_, S::Ty>,
     class: ClassNumbers,
     bound: &BoundNames,
     member: &Member,
     methods: &mut Vec<Signature<S::Ty>>,
 ) -> Result<(), OutOfMemory>
-    requires globals { AreGlobals S.has S.tree checker.old.store.now globals.now }
+    requires globals { AreGlobals S.has S.tree state.old.store.now globals.now }
     requires table { IsHeld (module_in globals.now.outline.now) class.number
         (base_facts (classes_of (module_in globals.now.outline.now)) class.base) (is_in_names bound.now)
         (member_of member.now) }
-    requires held { HasSignatures (S.has checker.old.store.now) methods.old.items }
-    ensures held { OnOk result (HasSignatures (S.has checker.new.store.now) methods.new.items) }
+    requires held { HasSignatures (S.has state.old.store.now) methods.old.items }
+    ensures held { OnOk result (HasSignatures (S.has state.new.store.now) methods.new.items) }
     ensures typed { OnOk result
         (signatures_with S.tree methods.new.items
         ≡ signatures_with S.tree methods.old.items
         ++ map (signature_of (module_in globals.now.outline.now)) (methods_in (member_of member.now ∷ []))) }
-    ensures found { OnOk result (AddsNotes checker.old checker.new
+    ensures found { OnOk result (AddsNotes state.old state.new
         (member_findings (module_in globals.now.outline.now)
         (base_facts (classes_of (module_in globals.now.outline.now)) class.base) (is_in_names bound.now)
         (member_of member.now))) }
-    ensures goes_on { CheckerKept S.TypeStore checker.old checker.new }
+    ensures goes_on { StateKept S.TypeStore state.old state.new }
 {
     match member {
-        Member::Field(field) => check_field(checker, globals, class, bound, field),
+        Member::Field(field) => check_field(state, globals, class, bound, field),
         Member::Method(def) => {
-            let signature = read_method(checker, globals, class, bound, def)?;
+            let signature = read_method(state, globals, class, bound, def)?;
             methods.push(signature)?;
             Ok(())
         }
@@ -235,27 +235,27 @@ fn add_member<S: TypeStore>(
 /// from those that come with the class table. Language Reference 3.12, 8.8 "Class definitions"; library reference,
 /// `dataclasses`.
 pub fn read_members<S: TypeStore>(
-    checker: &mut TypingState<'_, S>,
+    state: &mut TypingState<'_, S>,
     globals: &ModuleContext<'_, S::Ty>,
     class: ClassNumbers,
     members: &[Member],
 ) -> Result<Vec<Signature<S::Ty>>, OutOfMemory>
-    requires globals { AreGlobals S.has S.tree checker.old.store.now globals.now }
+    requires globals { AreGlobals S.has S.tree state.old.store.now globals.now }
     requires table { AreHeld (module_in globals.now.outline.now) class.number
         (base_facts (classes_of (module_in globals.now.outline.now)) class.base) no_name (map member_of members.now) }
     ensures typed { IfOk result
-        (λ ss. AreSignatures S.has S.tree checker.new.store.now ss.items
+        (λ ss. AreSignatures S.has S.tree state.new.store.now ss.items
         (map (signature_of (module_in globals.now.outline.now)) (methods_in (map member_of members.now)))) }
-    ensures found { OnOk result (AddsNotes checker.old checker.new
+    ensures found { OnOk result (AddsNotes state.old state.new
         (members_findings (module_in globals.now.outline.now)
         (base_facts (classes_of (module_in globals.now.outline.now)) class.base) no_name (map member_of members.now))) }
-    ensures goes_on { CheckerKept S.TypeStore checker.old checker.new }
+    ensures goes_on { StateKept S.TypeStore state.old state.new }
 {
-    let mut methods = Vec::new(checker.alloc);
-    let mut bound = IndexSet::with_hasher(checker.alloc, globals.outline.tree.keys);
+    let mut methods = Vec::new(state.alloc);
+    let mut bound = IndexSet::with_hasher(state.alloc, globals.outline.tree.keys);
     for member in members {
-        add_member(checker, globals, class, &bound, member, &mut methods)?;
-        bind(&mut bound, checker.alloc, member.name().text.as_str())?;
+        add_member(state, globals, class, &bound, member, &mut methods)?;
+        bind(&mut bound, state.alloc, member.name().text.as_str())?;
     }
     Ok(methods)
 }

@@ -11,7 +11,7 @@ use Rattle.pc_class.specs.Listed.{names_listed, needed_in, is_defaulted}
 use Rattle.pc_class.specs.Parts.{parameter_name}
 use Rattle.pc_class.specs.Tables.{parameter_with, parameters_with}
 use Rattle.pc_rules.specs.Calls.{are_filled, parameter_names}
-use Rattle.pc_calls.specs.JudgedCalls.{filled_listed, fills}
+use Rattle.pc_calls.specs.JudgedCalls.{filled_listed, fills_at}
 use Rattle.pc_calls.proofs.Filling.{filled_more, filled_last, filled_meant}
 use Rattle.pc_calls.proofs.FirstNames.{listed_names}
 
@@ -55,14 +55,14 @@ module _ {Ty : Type 0} where
     filled_past k = filled_listed named (names_listed (take k ps)) (drop k ps)
 
     filled_step : (i : ℕ) → i < length ps
-        → filled_past i ≡ ((is_defaulted (slice_get ps i) || fills named (slice_get ps i) i (names_listed ps))
+        → filled_past i ≡ ((is_defaulted (slice_get ps i) || fills_at named (slice_get ps i) i (names_listed ps))
         && filled_past (suc i))
     filled_step i less =
         let t = there_is ps i less in
         let n = parameter_name t.0 in
         filled_more named ps i t.0 less (there_at ps i t.0 t.1)
-        ∙ ap (λ o. (is_defaulted o || fills named o i (names_listed ps)) && filled_past (i + 1)) (sym t.1)
-        ∙ ap (λ j. (is_defaulted (slice_get ps i) || fills named (slice_get ps i) i (names_listed ps))
+        ∙ ap (λ o. (is_defaulted o || fills_at named o i (names_listed ps)) && filled_past (i + 1)) (sym t.1)
+        ∙ ap (λ j. (is_defaulted (slice_get ps i) || fills_at named (slice_get ps i) i (names_listed ps))
         && filled_past j) (add-one i)
 
     pub filled_end : (k : ℕ) → length ps ≤ k → filled_past k ≡ true
@@ -80,9 +80,9 @@ module _ {Ty : Type 0} where
 
     -- and those from one that an argument by name is for
     pub filled_by_name : (i end : ℕ) → end ≡ suc i → i < length ps
-        → fills named (slice_get ps i) i (names_listed ps) ≡ true → filled_past end ≡ true → filled_past i ≡ true
+        → fills_at named (slice_get ps i) i (names_listed ps) ≡ true → filled_past end ≡ true → filled_past i ≡ true
     filled_by_name i end one less f e = filled_step i less
-        ∙ go (is_defaulted (slice_get ps i)) (fills named (slice_get ps i) i (names_listed ps)) f
+        ∙ go (is_defaulted (slice_get ps i)) (fills_at named (slice_get ps i) i (names_listed ps)) f
         (sym (ap filled_past one) ∙ e)
       where
         go : (a b : Test) → b ≡ true → filled_past (suc i) ≡ true → ((a || b) && filled_past (suc i)) ≡ true
@@ -93,7 +93,7 @@ module _ {Ty : Type 0} where
     filled_up_by zero i less e = subst (λ k. filled_past k ≡ true) (let f : i ≡ i + 0 = omega arith in f) e
     filled_up_by (suc d) i less e = subst (λ k. filled_past k ≡ true)
         (let f : suc i + d ≡ i + suc d = omega arith in f)
-        (filled_up_by d (suc i) (omega (arith, less)) (go (is_defaulted (slice_get ps i) || fills named
+        (filled_up_by d (suc i) (omega (arith, less)) (go (is_defaulted (slice_get ps i) || fills_at named
         (slice_get ps i) i (names_listed ps)) (sym (filled_step i (omega (arith, less))) ∙ e)))
       where
         go : (a : Test) → (a && filled_past (suc i)) ≡ true → filled_past (suc i) ≡ true
@@ -115,7 +115,7 @@ module _ {Ty : Type 0} where
 
     -- one without default that no argument is for
     pub filled_not : (i j : ℕ) → i ≤ j → j < length ps → is_defaulted (slice_get ps j) ≡ false
-        → fills named (slice_get ps j) j (names_listed ps) ≡ false → filled_past i ≡ false
+        → fills_at named (slice_get ps j) j (names_listed ps) ≡ false → filled_past i ≡ false
     filled_not i j less within d f = go (filled_past i) refl
       where
         no : filled_past j ≡ false

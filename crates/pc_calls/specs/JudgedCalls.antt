@@ -59,9 +59,9 @@ is_place None i = false
 is_place (Some j) i = nat_eq j i
 
 -- whether an argument of these names is for the parameter at this place, the first of its name
-abbrev pub fills : {Ty : Type 0} → List (List ℕ) → Option (RustParameter Ty) → ℕ → List (List ℕ) → Test
-fills named None i names = false
-fills named (Some p) i names = is_one_of (parameter_name p) named && is_place (index_of (parameter_name p) names) i
+abbrev pub fills_at : {Ty : Type 0} → List (List ℕ) → Option (RustParameter Ty) → ℕ → List (List ℕ) → Test
+fills_at named None i names = false
+fills_at named (Some p) i names = is_one_of (parameter_name p) named && is_place (index_of (parameter_name p) names) i
 
 -- ---- the result of a call
 

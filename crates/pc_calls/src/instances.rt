@@ -77,18 +77,18 @@ fn is_unsure_test<S: TypeStore>(
 pub fn test_label<S: TypeStore>(
     store: &mut S,
     alloc: Global,
-    setting: &ExprContext<'_, S::Ty>,
+    context: &ExprContext<'_, S::Ty>,
     env: &Env<S::Ty>,
     arguments: &[Expr],
 ) -> Result<Label<S::Ty>, OutOfMemory>
     requires { HasEach (S.has store.old) env.now }
     ensures label { IfOk result
         (λ l. MeansLabel S.has S.tree store.new l
-        (test_label (context_with S.tree setting.now) (env_of S.tree env.now) (exprs_of_list arguments.now))) }
+        (test_label (context_with S.tree context.now) (env_of S.tree env.now) (exprs_of_list arguments.now))) }
     ensures kept { KeepsTypes S.has store.old store.new }
 {
     let mut codes = Vec::new(alloc);
-    if is_unsure_test(store, alloc, setting.names, env, arguments)? {
+    if is_unsure_test(store, alloc, context.names, env, arguments)? {
         codes.push(Code::A7)?;
     }
     let ty = store.bool(alloc)?;

@@ -9,7 +9,7 @@ ghost use Rattle.pc_class.specs.Listed.{names_listed};
 ghost use Rattle.pc_class.specs.Listings.{listed_in};
 ghost use Rattle.pc_class.specs.Tables.{parameters_with};
 ghost use Rattle.pc_rules.specs.Calls.{is_suited, is_free, are_filled, parameter_names};
-ghost use Rattle.pc_calls.specs.JudgedCalls.{names_in, given_with, signature_listed, fills};
+ghost use Rattle.pc_calls.specs.JudgedCalls.{names_in, given_with, signature_listed, fills_at};
 
 use crate::arguments::{Given, is_among};
 use crate::params::is_free;
@@ -17,7 +17,7 @@ use pc_class::Listing;
 
 /// Returns whether an argument by name fills the parameter at this place: it must be the first parameter of that name.
 fn takes_name<Ty: Drop>(given: &Given, params: &Listing<'_, Ty>, place: usize) -> bool
-    ensures { result ≡ fills (names_in given.now.named) (slice_get (listed_in params.now) place) place
+    ensures { result ≡ fills_at (names_in given.now.named) (slice_get (listed_in params.now) place) place
         (names_listed (listed_in params.now)) }
 {
     let Some(param) = params.at(place) else {

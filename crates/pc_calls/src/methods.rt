@@ -216,28 +216,28 @@ fn class_of(head: Head) -> Option<usize>
 fn push_method_offers<'t, S: TypeStore>(
     store: &mut S,
     alloc: Global,
-    setting: &ExprContext<'t, S::Ty>,
+    context: &ExprContext<'t, S::Ty>,
     call: &MethodCall,
     member: &S::Ty,
     offers: &mut Vec<CallOffer<'t, S::Ty>>,
 ) -> Result<(), OutOfMemory>
-    requires classes { HasEntries (S.has store.old) setting.now.globals.now.classes.now }
+    requires classes { HasEntries (S.has store.old) context.now.globals.now.classes.now }
     requires member { S.has store.old member.now }
     requires offers { All (HasCallOffer (S.has store.old)) offers.old.items }
     ensures offers { OnOk result
         (AreCallOffers S.has S.tree store.new offers.new.items
         (map (offer_called S.tree) offers.old.items
-        ++ method_offers (context_with S.tree setting.now) (given_with call.now.given.now) call.now.name.now
+        ++ method_offers (context_with S.tree context.now) (given_with call.now.given.now) call.now.name.now
         (S.tree member.now))) }
     ensures kept { KeepsTypes S.has store.old store.new }
 {
     match class_of(store.head(member)) {
         Some(class) => {
-            push_class_offers(store, alloc, setting.globals.classes, call, class, offers)?;
+            push_class_offers(store, alloc, context.globals.classes, call, class, offers)?;
             Ok(())
         }
         None => {
-            let offer = other_offer(store, alloc, setting.globals.outline.parents, call, member)?;
+            let offer = other_offer(store, alloc, context.globals.outline.parents, call, member)?;
             push_offer(offers, offer)?;
             Ok(())
         }
@@ -248,16 +248,16 @@ fn push_method_offers<'t, S: TypeStore>(
 pub fn callee_of_method<'t, S: TypeStore>(
     store: &mut S,
     alloc: Global,
-    setting: &ExprContext<'t, S::Ty>,
+    context: &ExprContext<'t, S::Ty>,
     given: &Given,
     field: &Name,
     object: &S::Ty,
 ) -> Result<TypedCallee<'t, S::Ty>, OutOfMemory>
-    requires classes { HasEntries (S.has store.old) setting.now.globals.now.classes.now }
+    requires classes { HasEntries (S.has store.old) context.now.globals.now.classes.now }
     requires object { S.has store.old object.now }
     ensures callee { IfOk result
         (λ c. IsCallee S.has S.tree store.new c
-        (method_callee (context_with S.tree setting.now) (given_with given.now) (name_of field.now).text
+        (method_callee (context_with S.tree context.now) (given_with given.now) (name_of field.now).text
         (S.tree object.now))) }
     ensures kept { KeepsTypes S.has store.old store.new }
 {
@@ -266,7 +266,7 @@ pub fn callee_of_method<'t, S: TypeStore>(
     let call = MethodCall { name: word, given };
     let mut offers = Vec::new(alloc);
     for i in 0..members.len() {
-        push_method_offers(store, alloc, setting, &call, &members[i], &mut offers)?;
+        push_method_offers(store, alloc, context, &call, &members[i], &mut offers)?;
     }
     let ty = store.any(alloc)?;
     let codes = codes_at_callee(alloc, &offers)?;

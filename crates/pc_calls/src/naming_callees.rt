@@ -27,36 +27,36 @@ use std::alloc::Global;
 pub fn callee_of_name<'t, S: TypeStore>(
     store: &mut S,
     alloc: Global,
-    setting: &ExprContext<'t, S::Ty>,
+    context: &ExprContext<'t, S::Ty>,
     env: &Env<S::Ty>,
     given: &Given,
     name: &Name,
 ) -> Result<TypedCallee<'t, S::Ty>, OutOfMemory>
-    requires { HasGivenAll (S.has store.old) S.tree setting.now env.now }
+    requires { HasGivenAll (S.has store.old) S.tree context.now env.now }
     ensures callee { IfOk result
         (λ c. IsCallee S.has S.tree store.new c
-        (name_callee (context_with S.tree setting.now) (env_of S.tree env.now) (given_with given.now)
-        (meanings setting.now.names.now (name_of name.now).text))) }
+        (name_callee (context_with S.tree context.now) (env_of S.tree env.now) (given_with given.now)
+        (meanings context.now.names.now (name_of name.now).text))) }
     ensures kept { KeepsTypes S.has store.old store.new }
 {
-    match setting.names.resolve(name.text.as_str()) {
+    match context.names.resolve(name.text.as_str()) {
         NameMeaning::Func(function) => {
-            if !setting.in_body {
+            if !context.in_body {
                 return callee_in_error(store, alloc, Code::E03);
             }
-            let offer = function_offer(store, alloc, given, setting.globals.functions, function)?;
+            let offer = function_offer(store, alloc, given, context.globals.functions, function)?;
             good_callee(store, alloc, offer)
         }
         NameMeaning::Class(class) => {
-            if class >= setting.globals.known {
+            if class >= context.globals.known {
                 return callee_in_error(store, alloc, Code::E03);
             }
-            let offer = class_offer(store, alloc, given, setting.globals.classes, class)?;
+            let offer = class_offer(store, alloc, given, context.globals.classes, class)?;
             good_callee(store, alloc, offer)
         }
         NameMeaning::Builtin(builtin) => callee_of_builtin(store, alloc, given, builtin),
         NameMeaning::Local(_) | NameMeaning::Const(_) | NameMeaning::None => {
-            let label = name_label(store, alloc, setting, env, name)?;
+            let label = name_label(store, alloc, context, env, name)?;
             callee_of_value(store, alloc, label)
         }
     }

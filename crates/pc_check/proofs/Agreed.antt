@@ -13,7 +13,7 @@ use Rattle.pc_tree.specs.Tree.{conditional, no_stmts, more_stmts, no_branches}
 use Rattle.pc_tree.specs.Tree.{more_branches}
 use Rattle.pc_tree.specs.Stopping.{bound_by, bound_by_stmt, bound_by_branches}
 use Rattle.pc_scope.specs.declared.resolution.NameMeaning.{NameMeaning}
-use Rattle.pc_scope.specs.declared.resolution.NameMeaning.TheVariants as res
+use Rattle.pc_scope.specs.declared.resolution.NameMeaning.TheVariants as meaning
 use Rattle.pc_types.specs.Tree.{Tree}
 use Rattle.pc_types.specs.Below.{Bases}
 use Rattle.pc_class.specs.Facts.{TypedParameter}
@@ -57,15 +57,15 @@ suite_long context w b l =
     let out = walk_suite context w b in
     record {
       env_long = kept_long w.table out.table out.env behind.long behind.env_here;
-      broken_long = kept_long w.table out.table out.broken behind.long
-          (behind.broken_here (none_kept w.table w.broken l.broken_long));
+      exit_env_long = kept_long w.table out.table out.exit_env behind.long
+          (behind.exit_env_here (none_kept w.table w.exit_env l.exit_env_long));
     }
 
-pub step_long : (context : BodyContext) (table : DeclaredTypes) (env broken : Option Env) (found : List Note) (s : Stmt)
-    → HasAllLocals (record { table = table; env = env; broken = broken; found = found })
-    → HasAllLocals (step context table env broken found s)
-step_long context table env broken found s l = suite_long context
-    (record { table = table; env = env; broken = broken; found = found }) (more_stmts s no_stmts) l
+pub step_long : (context : BodyContext) (table : DeclaredTypes) (env exit_env : Option Env) (found : List Note) (s : Stmt)
+    → HasAllLocals (record { table = table; env = env; exit_env = exit_env; found = found })
+    → HasAllLocals (step context table env exit_env found s)
+step_long context table env exit_env found s l = suite_long context
+    (record { table = table; env = env; exit_env = exit_env; found = found }) (more_stmts s no_stmts) l
 
 -- ---- lists of locals
 
@@ -221,20 +221,20 @@ module _ (context : BodyContext) (locals : List ℕ) where
       (tested_in resolved rest) t).1
 
   -- after a statement
-  pub step_agrees : (table : DeclaredTypes) (env broken : Option Env) (found : List Note) (s : Stmt) (base : Option Env) →
+  pub step_agrees : (table : DeclaredTypes) (env exit_env : Option Env) (found : List Note) (s : Stmt) (base : Option Env) →
       WellFormedIfAny context.context.bases env →
-      HasAllLocals (record { table = table; env = env; broken = broken; found = found }) →
+      HasAllLocals (record { table = table; env = env; exit_env = exit_env; found = found }) →
       AreAmong locals (touched_by_stmt resolved s) →
       WaysAgree locals base env →
-      WaysAgree locals base (step context table env broken found s).env
-  step_agrees table None broken found s base w l h a = no_out base
-  step_agrees table (Some env) broken found s base w l h a =
+      WaysAgree locals base (step context table env exit_env found s).env
+  step_agrees table None exit_env found s base w l h a = no_out base
+  step_agrees table (Some env) exit_env found s base w l h a =
       let kind = Outside locals in
       let apart = apart_both kind env (numbers_of resolved (bound_by_stmt s)) (tested_in_stmt resolved s)
       (among_apart locals env (touched_by_stmt resolved s) h) in
       let behind = step_here context kind env (λ x o. current_well_formed context.context.bases env x w) table
-      (Some env) broken found s (sym l.env_long) (record { long = refl; same = λ x k. refl }) apart.0 apart.1 in
-      agree_kept base env (step context table (Some env) broken found s).env a behind.env_here
+      (Some env) exit_env found s (sym l.env_long) (record { long = refl; same = λ x k. refl }) apart.0 apart.1 in
+      agree_kept base env (step context table (Some env) exit_env found s).env a behind.env_here
 
   -- ---- branches
 
@@ -252,7 +252,7 @@ module _ (context : BodyContext) (locals : List ℕ) where
       agree_kept base last (Some (narrowed_at context table holds c last)) a kept
 
   -- after all branches
-  pub branches_agree : (table : DeclaredTypes) (last : Env) (broken : Option Env) (found : List Note) (bs : Branches)
+  pub branches_agree : (table : DeclaredTypes) (last : Env) (exit_env : Option Env) (found : List Note) (bs : Branches)
       (base : Option Env) →
       IsWellFormedEnv context.context.bases last →
       length last ≡ length table →
@@ -262,14 +262,14 @@ module _ (context : BodyContext) (locals : List ℕ) where
         table = table;
         last = last;
         ways = None;
-        broken = broken;
+        exit_env = exit_env;
         found = found;
       }) bs).last)
-  branches_agree table last broken found bs base w l h a =
+  branches_agree table last exit_env found bs base w l h a =
       let kind = Outside locals in
       let apart = apart_both kind last (numbers_of resolved (bound_by_branches bs)) (tested_in_branches resolved bs)
       (among_apart locals last (touched_by_branches resolved bs) h) in
-      let start : BranchesResult = record { table = table; last = last; ways = None; broken = broken; found = found } in
+      let start : BranchesResult = record { table = table; last = last; ways = None; exit_env = exit_env; found = found } in
       let behind = branches_here context kind last (λ x o. current_well_formed context.context.bases last x w) start bs
       (sym l) (record { long = refl; same = λ x k. refl }) tt apart.0 apart.1 in
       agree_kept base last (Some (walk_branches context start bs).last) a behind.last_here
@@ -322,16 +322,16 @@ module _ (context : BodyContext) (locals : List ℕ) where
 
 entered_name_long : (table : DeclaredTypes) (env : Env) (r : NameMeaning) (t : Tree) → length env ≡ length table
     → length (enter_name table env r t).1 ≡ length (enter_name table env r t).0
-entered_name_long table env (res.Local x) t l = go (bound_type table x)
+entered_name_long table env (meaning.Local x) t l = go (bound_type table x)
   where
     go : (o : Option Tree) → length (enter_local o table env x t).1 ≡ length (enter_local o table env x t).0
     go (Some d) = l
     go None = length-set env x (Some t) ∙ l ∙ sym (length-set table x (Some t))
-entered_name_long table env (res.Const i) t l = l
-entered_name_long table env (res.Func i) t l = l
-entered_name_long table env (res.Class i) t l = l
-entered_name_long table env (res.Builtin b) t l = l
-entered_name_long table env res.None t l = l
+entered_name_long table env (meaning.Const i) t l = l
+entered_name_long table env (meaning.Func i) t l = l
+entered_name_long table env (meaning.Class i) t l = l
+entered_name_long table env (meaning.Builtin b) t l = l
+entered_name_long table env meaning.None t l = l
 
 pub entered_long : (resolve : List ℕ → NameMeaning) (table : DeclaredTypes) (env : Env) (ps : List TypedParameter)
     → length env ≡ length table → length (enter_parameters resolve table env ps).1

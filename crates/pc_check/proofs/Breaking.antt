@@ -11,7 +11,7 @@ use Rattle.pc_flow.specs.Environment.{Env, current}
 use Rattle.pc_flow.proofs.Settled.{outside_both}
 use Rattle.pc_walk.specs.Untouched.{AreAmong, WaysAgree, WayTakesIn, AreNoted}
 use Rattle.pc_walk.proofs.Settled.{outside_part}
-use Rattle.pc_check.specs.Internal.StatementWalk.{BreaksSettle}
+use Rattle.pc_check.specs.Internal.StatementWalk.{BreaksAreSubsumed}
 use Rattle.pc_check.proofs.Agreed.{among_same}
 
 -- each of a list is among it
@@ -77,12 +77,12 @@ module _ (bases : Bases) where
       (a x (outside_part (is_among locals x) (is_among unsettled x) (f x) k)) (h x k)
 
   -- before statements that touch some locals, those may be left out
-  pub starts_settled : (locals unsettled : List ℕ) (broken env : Option Env) → WayTakesIn bases unsettled broken env
-      → BreaksSettle bases locals locals unsettled broken env env
-  starts_settled locals unsettled broken env h = record {
+  pub starts_settled : (locals unsettled : List ℕ) (exit_env env : Option Env) → WayTakesIn bases unsettled exit_env env
+      → BreaksAreSubsumed bases locals locals unsettled exit_env env env
+  starts_settled locals unsettled exit_env env h = record {
     among = self_among locals;
     agree = self_agrees locals env;
-    taken_in = way_more unsettled locals broken env h;
+    taken_in = way_more unsettled locals exit_env env h;
   }
 
   module _ {A : Type 0} (f : A → Env) where

@@ -9,7 +9,7 @@ use Rattle.std.proofs.lemmas.List.Elements.{All-nil, All-head, All-tail, All-con
 use Rattle.pc_tree.specs.Tree.{FuncDef, Module}
 use Rattle.pc_scope.specs.declared.resolution.Owner.{Owner}
 use Rattle.pc_scope.specs.declared.resolution.NameMeaning.{NameMeaning}
-use Rattle.pc_scope.specs.declared.resolution.NameMeaning.TheVariants as res
+use Rattle.pc_scope.specs.declared.resolution.NameMeaning.TheVariants as meaning
 use Rattle.pc_scope.specs.Resolution.{locals}
 use Rattle.pc_types.specs.Tree.{Tree}
 use Rattle.pc_types.specs.Below.{Bases}
@@ -63,14 +63,14 @@ none_is tree zero = refl
 none_is tree (suc n) = ap (λ l. None ∷ l) (none_is tree n)
 
 -- entering a name that means no local, or a local that is already bound, changes nothing
-pub name_elsewhere : (table : DeclaredTypes) (env : Env) (r : NameMeaning) (t : Tree) → ((x : ℕ) → r ≡ res.Local x → ⊥)
+pub name_elsewhere : (table : DeclaredTypes) (env : Env) (r : NameMeaning) (t : Tree) → ((x : ℕ) → r ≡ meaning.Local x → ⊥)
     → enter_name table env r t ≡ (table, env)
-name_elsewhere table env (res.Local x) t h = absurd (h x refl)
-name_elsewhere table env (res.Const i) t h = refl
-name_elsewhere table env (res.Func i) t h = refl
-name_elsewhere table env (res.Class i) t h = refl
-name_elsewhere table env (res.Builtin b) t h = refl
-name_elsewhere table env res.None t h = refl
+name_elsewhere table env (meaning.Local x) t h = absurd (h x refl)
+name_elsewhere table env (meaning.Const i) t h = refl
+name_elsewhere table env (meaning.Func i) t h = refl
+name_elsewhere table env (meaning.Class i) t h = refl
+name_elsewhere table env (meaning.Builtin b) t h = refl
+name_elsewhere table env meaning.None t h = refl
 
 name_settled : (table : DeclaredTypes) (env : Env) (x : ℕ) (t : Tree) (o : Option Tree) → is_some o ≡ true
     → enter_local o table env x t ≡ (table, env)
@@ -84,7 +84,7 @@ some_copied tree (Some ty) e = refl
 
 pub name_bound : {Ty : Type 0} (tree : Ty → Tree) (declared : List (Option Ty)) (env : Env) (x : ℕ) (t : Tree)
     (o : Option (Bor Ty)) → option_copied o ≡ slice_index_or declared x None → is_some o ≡ true
-    → enter_name (env_of tree declared) env (res.Local x) t ≡ (env_of tree declared, env)
+    → enter_name (env_of tree declared) env (meaning.Local x) t ≡ (env_of tree declared, env)
 name_bound tree declared env x t o copied e =
     ap (λ b. enter_local b (env_of tree declared) env x t)
     (local_current tree declared x (slice_index_or declared x None) refl ∙ sym (ap (option_map tree) copied))
@@ -106,7 +106,7 @@ module _ {Store Ty : Type 0} (has : Store → Ty → Type 0) (tree : Ty → Tree
       Means has tree store current (tree ty) →
       slice_index_or declared x None ≡ None →
       GivesEntry (slice_set declared x (Some first)) (slice_set env x (Some current))
-      (enter_name (env_of tree declared) (env_of tree env) (res.Local x) (tree ty))
+      (enter_name (env_of tree declared) (env_of tree env) (meaning.Local x) (tree ty))
   local_entered declared env x ty first current hd he ht mf mc e =
       let d = set_gives has tree bases store declared x first
       (record { given = mf.0; well_formed = subst (IsWellFormed bases) (sym mf.1) ht.well_formed }) hd in
@@ -134,7 +134,7 @@ enter_both resolve table env (p ∷ ps) qs = let r = enter_name table env
 -- a walk from this entry
 abbrev walk_from : BodyContext → FuncDef → List Note → DeclaredTypes × Env → Walk
 walk_from context f found start = walk_suite context (record
-    { table = start.0; env = Some start.1; broken = None; found = found }) f.body
+    { table = start.0; env = Some start.1; exit_env = None; found = found }) f.body
 
 -- the findings in a function with so many locals that is entered with these parameters
 abbrev found_from : BodyContext → FuncDef → List Note → ℕ → List TypedParameter → List Note

@@ -20,7 +20,7 @@ use Rattle.pc_walk.specs.StatementsHeld.{body_context_with}
 use Rattle.pc_walk.specs.declared.walk.Walk.{Walk}
 use Rattle.pc_walk.specs.Walks.{HoldsEnv, HoldsWay, WalkKept, IsQuiet, Found, body_context_in, standing_in}
 use Rattle.pc_walk.proofs.Walks.{context_on, env_kept, way_kept}
-use Rattle.pc_check.specs.Internal.Walked.{StandsIn, Walked, reached}
+use Rattle.pc_check.specs.Internal.Walked.{IsValidWith, Walked, reached}
 
 -- nothing is left of a suite, and of branches
 pub no_statement_left : (body : List RustStmt) (i : ℕ) → length body ≤ i → stmts_of_list (drop i body) ≡ no_stmts
@@ -34,48 +34,48 @@ pub in_turn : (old first second new : List Note) → new ≡ old ++ (first ++ se
 in_turn old first second new e = e ∙ sym (append_assoc old first second)
 
 -- the state of a walk, by what was found
-abbrev pub reached_by : DeclaredTypes → (env broken : Option Env) → List Note → Reached
-reached_by table env broken found = record { table = table; env = env; broken = broken; found = found }
+abbrev pub reached_by : DeclaredTypes → (env exit_env : Option Env) → List Note → Reached
+reached_by table env exit_env found = record { table = table; env = env; exit_env = exit_env; found = found }
 
 module _ (context : BodyContext) where
   -- one branch more
-  pub branch_walked : (table : DeclaredTypes) (last : Env) (ways broken : Option Env) (found : List Note) (c : Expr) (b : Stmts)
+  pub branch_walked : (table : DeclaredTypes) (last : Env) (ways exit_env : Option Env) (found : List Note) (c : Expr) (b : Stmts)
       (start body : Reached) (last' : Env) (ways' : Option Env)
       → start ≡ record {
         table = table;
         env = Some (narrowed_at context table true c last);
-        broken = broken;
+        exit_env = exit_env;
         found = found ++ finds_in (standing_here context table last) None c;
       }
       → body ≡ walk_suite context start b
       → last' ≡ narrowed_at context table false c last
       → ways' ≡ with_way context.context.bases body.table ways body.env
       → walk_branches context
-      (record { table = body.table; last = last'; ways = ways'; broken = body.broken; found = body.found }) no_branches
+      (record { table = body.table; last = last'; ways = ways'; exit_env = body.exit_env; found = body.found }) no_branches
       ≡ walk_branches context
-      (record { table = table; last = last; ways = ways; broken = broken; found = found })
+      (record { table = table; last = last; ways = ways; exit_env = exit_env; found = found })
       (more_branches c b no_branches)
-  branch_walked table last ways broken found c b start body last' ways' es eb el ew =
+  branch_walked table last ways exit_env found c b start body last' ways' es eb el ew =
       let e = eb ∙ ap (λ w. walk_suite context w b) es in
       let joined = ew ∙ ap (λ (w : Reached). with_way context.context.bases w.table ways w.env) e in
-      λ i. record { table = (e i).table; last = el i; ways = joined i; broken = (e i).broken; found = (e i).found }
+      λ i. record { table = (e i).table; last = el i; ways = joined i; exit_env = (e i).exit_env; found = (e i).found }
 
   -- after an `if`, by what its branches come to
-  pub branches_from : (fork result : BranchesResult) (o : Stmts) → fork ≡ result
-      → behind_branches context fork.ways
-      (walk_suite context (reached_by fork.table (Some fork.last) fork.broken fork.found) o)
+  pub branches_from : (if_state result : BranchesResult) (o : Stmts) → if_state ≡ result
+      → behind_branches context if_state.ways
+      (walk_suite context (reached_by if_state.table (Some if_state.last) if_state.exit_env if_state.found) o)
       ≡ behind_branches context result.ways
-      (walk_suite context (reached_by result.table (Some result.last) result.broken result.found) o)
-  branches_from fork result o e = λ i. behind_branches context (e i).ways
-      (walk_suite context (reached_by (e i).table (Some (e i).last) (e i).broken (e i).found) o)
+      (walk_suite context (reached_by result.table (Some result.last) result.exit_env result.found) o)
+  branches_from if_state result o e = λ i. behind_branches context (e i).ways
+      (walk_suite context (reached_by (e i).table (Some (e i).last) (e i).exit_env (e i).found) o)
 
   -- after the suite of `else`
   pub otherwise_walked : (ways : Option Env) (out result : Reached) (joined : Option Env) → out ≡ result
       → joined ≡ with_way context.context.bases out.table ways out.env
-      → reached_by out.table joined out.broken out.found ≡ behind_branches context ways result
+      → reached_by out.table joined out.exit_env out.found ≡ behind_branches context ways result
   otherwise_walked ways out result joined eo ej =
-      let first : reached_by out.table joined out.broken out.found ≡ behind_branches context ways out =
-      λ i. record { table = out.table; env = ej i; broken = out.broken; found = out.found } in
+      let first : reached_by out.table joined out.exit_env out.found ≡ behind_branches context ways out =
+      λ i. record { table = out.table; env = ej i; exit_env = out.exit_env; found = out.found } in
       first ∙ ap (behind_branches context ways) eo
 
 module _ {Store Ty : Type 0} (S : StoreOf Store Ty) where
@@ -90,13 +90,13 @@ module _ {Store Ty : Type 0} (S : StoreOf Store Ty) where
     found_reached behind way = λ i. record {
       table = env_of S.tree (a.declared i);
       env = option_map (env_of S.tree) behind;
-      broken = option_map (env_of S.tree) way;
+      exit_env = option_map (env_of S.tree) way;
       found = a.pushed i;
     }
 
-    -- it stands there
+    -- the walk is valid there
     pub found_stands : (behind way : Option (List (Option Ty))) → HoldsWay S new behind → HoldsWay S old way
-        → StandsIn S new behind way
+        → IsValidWith S new behind way
     found_stands behind way h k = record {
       context = a.stands.context;
       declared = a.stands.declared;
@@ -112,8 +112,8 @@ module _ {Store Ty : Type 0} (S : StoreOf Store Ty) where
         (env_of S.tree (a.declared i)) holds c (env_of S.tree env)
 
   module _ (old new : Walk Store Ty) (g : WalkKept S old new) (q : IsQuiet S old new) where
-    -- after a quiet step a walk stands as before it
-    pub quiet_stands : (env way : Option (List (Option Ty))) → StandsIn S old env way → StandsIn S new env way
+    -- after a quiet step a walk is valid as before it
+    pub quiet_stands : (env way : Option (List (Option Ty))) → IsValidWith S old env way → IsValidWith S new env way
     quiet_stands env way h = record {
       context = context_on S old new h.context g;
       declared = subst (λ (ds : List (Option Ty)). HoldsEnv S new ds) (sym q.declared)
@@ -127,7 +127,7 @@ module _ {Store Ty : Type 0} (S : StoreOf Store Ty) where
     quiet_reached env way = λ i. record {
       table = env_of S.tree (q.declared i);
       env = option_map (env_of S.tree) env;
-      broken = option_map (env_of S.tree) way;
+      exit_env = option_map (env_of S.tree) way;
       found = q.found i;
     }
 

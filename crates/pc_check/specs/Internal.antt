@@ -1,4 +1,4 @@
--- Definitions used only by the contracts of private functions; public contracts cite definitions of the crates below.
+-- Definitions used only by the contracts of private functions.
 pub mod Entry
 pub mod ModuleWalk
 pub mod StatementWalk

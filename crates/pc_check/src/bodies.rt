@@ -1,12 +1,12 @@
 //! The bodies of the functions and methods of a module.
-#![tactic(auto, using(pc_rules::proofs::Checkers::goes_further))]
+#![tactic(auto, using(pc_rules::proofs::TypingStates::goes_further))]
 
 ghost use Rattle.std.specs.Prelude.{◌≡◌, OnOk, Some};
 ghost use Rattle.std.specs.Option.{option_copied};
 ghost use Rattle.pc_tree.specs.Tree.{func_of};
 ghost use Rattle.pc_scope.specs.Resolution.{function_of};
 ghost use Rattle.pc_notes.specs.Notes.{notes_of};
-ghost use Rattle.pc_rules.specs.Computed.Checkers.{CheckerKept};
+ghost use Rattle.pc_rules.specs.Computed.TypingStates.{StateKept};
 ghost use Rattle.pc_rules.specs.Computed.Signatures.{constants_of};
 ghost use Rattle.pc_module_rules.specs.Computed.Statements.{function_finds};
 ghost use Rattle.pc_check.specs.Internal.ModuleWalk.{module_in, signature_for, IsModuleBodies};
@@ -40,21 +40,21 @@ fn signature_for<Ty: Drop>(signatures: &Signatures<Ty>, owner: Owner) -> Option<
     }
 }
 
-/// Checks the body of the function or method that `owner` names. Appends its findings, and E21 at its name if its end
-/// is reachable and `None` is not a static subtype of its return type. Language Reference 3.12, 8.7 "Function
-/// definitions".
+/// Checks the body of `def`, which is the function or method that `owner` names. Appends its findings, and E21 at its
+/// name if its end is reachable and `None` is not a static subtype of its return type. Does nothing if it has no
+/// signature. Language Reference 3.12, 8.7 "Function definitions".
 pub(crate) fn check_owned<S: TypeStore>(
-    checker: &mut TypingState<'_, S>,
+    state: &mut TypingState<'_, S>,
     bodies: &ModuleBodies<'_, S::Ty>,
     owner: Owner,
     def: &FuncDef,
 ) -> Result<(), OutOfMemory>
-    requires bodies { IsModuleBodies (S.has checker.old.store.now) S.tree bodies.now }
+    requires bodies { IsModuleBodies (S.has state.old.store.now) S.tree bodies.now }
     requires owner { function_of (module_in bodies.now) owner ≡ Some (func_of def.now) }
     ensures found { OnOk result
-        (notes_of checker.new.found.now ≡ function_finds bodies.now.globals.now.keeps (module_in bodies.now)
-        (constants_of (module_in bodies.now)) owner (func_of def.now) (notes_of checker.old.found.now)) }
-    ensures goes_on { CheckerKept S.TypeStore checker.old checker.new }
+        (notes_of state.new.found.now ≡ function_finds bodies.now.globals.now.keeps (module_in bodies.now)
+        (constants_of (module_in bodies.now)) owner (func_of def.now) (notes_of state.old.found.now)) }
+    ensures goes_on { StateKept S.TypeStore state.old state.new }
 {
     match signature_for(bodies.signatures, owner) {
         None => Ok(()),
@@ -70,7 +70,7 @@ pub(crate) fn check_owned<S: TypeStore>(
             };
             let count = bodies.globals.outline.scopes.count_locals(owner);
             let params = signature.params.as_slice();
-            check_function(checker, context, owner, count, params, def)
+            check_function(state, context, owner, count, params, def)
         }
     }
 }

@@ -10,14 +10,14 @@ ghost use Rattle.pc_class.specs.Tables.{HasParameter, parameters_with};
 ghost use Rattle.pc_class.specs.Facts.{parameters_of};
 ghost use Rattle.pc_flow.specs.Stored.{env_of};
 ghost use Rattle.pc_notes.specs.Notes.{notes_of};
-ghost use Rattle.pc_rules.specs.Computed.Checkers.{CheckerKept as CheckerGoesOn};
+ghost use Rattle.pc_rules.specs.Computed.TypingStates.{StateKept as StateKeptAfter};
 ghost use Rattle.pc_rules.specs.Computed.ModuleParents.{class_parents};
 ghost use Rattle.pc_module_rules.specs.Modules.{receiver_parameter};
 ghost use Rattle.pc_module_rules.specs.Computed.Statements.{body_context_of, function_finds, enter_parameters};
 ghost use Rattle.pc_module_rules.specs.Computed.Statements.{enter_name};
 ghost use Rattle.pc_module_rules.specs.Computed.Statements.{end_finds};
 ghost use Rattle.pc_walk.specs.StatementsHeld.{body_context_with, HoldsContext};
-ghost use Rattle.pc_walk.specs.Walks.{Stands, HoldsOne, WalkKept, BindsName, body_context_in};
+ghost use Rattle.pc_walk.specs.Walks.{IsValidIn, HoldsOne, WalkKept, BindsName, body_context_in};
 ghost use Rattle.pc_check.specs.Internal.Entry.{HoldsParameters, entered};
 
 use crate::statements::{LoopExit, check_suite};
@@ -38,7 +38,7 @@ fn enter_name<S: TypeStore>(
     name: &str,
     ty: &S::Ty,
 ) -> Result<(), OutOfMemory>
-    requires stands { Stands S.TypeStore walk.old env.old }
+    requires stands { IsValidIn S.TypeStore walk.old env.old }
     requires ty { HoldsOne S.TypeStore walk.old ty.now }
     ensures bound { OnOk result (BindsName S.TypeStore walk.old env.old walk.new env.new
         (λ f t k. entered (enter_name t k (f.context.resolve name.now) (S.tree ty.now)))) }
@@ -59,12 +59,12 @@ fn enter_name<S: TypeStore>(
 
 /// Gives the local of each parameter, in order, the parameter's type as its declared type and as its current type in
 /// `env`. Of parameters with one name, the first counts. Language Reference 8.7 "Function definitions".
-fn enter<S: TypeStore>(
+fn enter_parameters<S: TypeStore>(
     walk: &mut Walk<'_, S>,
     env: &mut Env<S::Ty>,
     params: &[Parameter<S::Ty>],
 ) -> Result<(), OutOfMemory>
-    requires stands { Stands S.TypeStore walk.old env.old }
+    requires stands { IsValidIn S.TypeStore walk.old env.old }
     requires params { HoldsParameters S.TypeStore walk.old params.now }
     ensures bound { OnOk result (BindsName S.TypeStore walk.old env.old walk.new env.new
         (λ f t k. entered (enter_parameters f.context.resolve t k (parameters_with S.tree params.now)))) }
@@ -83,7 +83,7 @@ fn enter_receiver<S: TypeStore>(
     env: &mut Env<S::Ty>,
     owner: Owner,
 ) -> Result<(), OutOfMemory>
-    requires { Stands S.TypeStore walk.old env.old }
+    requires { IsValidIn S.TypeStore walk.old env.old }
     ensures bound { OnOk result (BindsName S.TypeStore walk.old env.old walk.new env.new
         (λ f t k. entered (enter_parameters f.context.resolve t k (receiver_parameter owner)))) }
     ensures goes_on { WalkKept S.TypeStore walk.old walk.new }
@@ -99,10 +99,10 @@ fn enter_receiver<S: TypeStore>(
     }
 }
 
-/// Appends E21 at the name of a function if the end of its body is reachable (`out` is not `None`) and `None` is not a
-/// static subtype of its return type. Typing specification, "Return types of functions whose end is reached"; own rule
-/// of the profile.
-fn find_end<S: TypeStore>(
+/// Appends E21 at `name`, the place of the function's name, if `out` is an environment (the end is reachable) and
+/// `None` is no static subtype of `walk.context.returned`. Typing specification, "Return types of functions whose end
+/// is reached"; own rule of the profile.
+fn check_end<S: TypeStore>(
     walk: &mut Walk<'_, S>,
     name: Place,
     out: &Option<Env<S::Ty>>,
@@ -128,7 +128,8 @@ fn find_end<S: TypeStore>(
 
 /// Checks the body of the function or method `def`: declares its receiver and parameters in `walk`, checks its
 /// statements and appends their findings to `walk.found`. Appends E21 at its name if its end is reachable and `None` is
-/// not a static subtype of its return type. `count` is the number of its locals; none of them may have a declared type
+/// not a static subtype of its return type. `owner` is `def` as scopes number it, `params` its typed parameters, and
+/// `walk.context` the context of its body. `count` is the number of its locals; none of them may have a declared type
 /// yet. Language Reference 8.7 "Function definitions"; own rules of the profile.
 fn walk_function<S: TypeStore>(
     walk: &mut Walk<'_, S>,
@@ -154,49 +155,50 @@ fn walk_function<S: TypeStore>(
 {
     let mut env = Env::new(walk.alloc, count)?;
     enter_receiver(walk, &mut env, owner)?;
-    enter(walk, &mut env, params)?;
+    enter_parameters(walk, &mut env, params)?;
     let mut exit = LoopExit {
         env: None,
         unsettled: Vec::new(walk.alloc),
     };
     let out = check_suite(walk, Some(env), &mut exit, &def.body)?;
-    find_end(walk, def.name.place, &out)?;
+    check_end(walk, def.name.place, &out)?;
     Ok(())
 }
 
 /// Checks the body of the function or method `def`, which has `count` locals, starting with none of them declared.
-/// Appends its findings to `checker.found`, and E21 at its name if its end is reachable and `None` is not a static
-/// subtype of its return type. Language Reference 8.7 "Function definitions"; own rules of the profile.
+/// Appends its findings to `state.found`, and E21 at its name if its end is reachable and `None` is not a static
+/// subtype of its return type. `owner` is `def` as scopes number it, `params` its typed parameters, and `context` the
+/// context of its body. Language Reference 8.7 "Function definitions"; own rules of the profile.
 pub(crate) fn check_function<S: TypeStore>(
-    checker: &mut TypingState<'_, S>,
+    state: &mut TypingState<'_, S>,
     context: BodyContext<'_, S::Ty>,
     owner: Owner,
     count: usize,
     params: &[Parameter<S::Ty>],
     def: &FuncDef,
 ) -> Result<(), OutOfMemory>
-    requires context { HoldsContext (S.has checker.old.store.now) S.tree context }
+    requires context { HoldsContext (S.has state.old.store.now) S.tree context }
     requires body { body_context_with S.tree context
         ≡ body_context_of context.globals.now.keeps (module_of context.globals.now.outline.now.tree.now)
         (map S.tree context.globals.now.constants.now) owner (func_of def.now) }
     requires count { count ≡ length (locals owner (func_of def.now)) }
-    requires given { All (HasParameter (S.has checker.old.store.now)) params.now }
+    requires given { All (HasParameter (S.has state.old.store.now)) params.now }
     requires params { parameters_with S.tree params.now
         ≡ parameters_of (module_of context.globals.now.outline.now.tree.now) (func_of def.now).params }
     ensures found { OnOk result
-        (notes_of checker.new.found.now ≡ function_finds context.entry.globals.now.keeps
+        (notes_of state.new.found.now ≡ function_finds context.entry.globals.now.keeps
         (module_of context.entry.globals.now.outline.now.tree.now)
         (map S.tree context.entry.globals.now.constants.now) owner
-        (func_of def.now) (notes_of checker.old.found.now)) }
-    ensures goes_on { CheckerGoesOn S.TypeStore checker.old checker.new }
+        (func_of def.now) (notes_of state.old.found.now)) }
+    ensures goes_on { StateKeptAfter S.TypeStore state.old state.new }
 {
-    let mut declared = DeclaredTypes::new(checker.alloc, count)?;
+    let mut declared = DeclaredTypes::new(state.alloc, count)?;
     let mut walk = Walk {
-        store: checker.store,
-        alloc: checker.alloc,
+        store: state.store,
+        alloc: state.alloc,
         context,
         declared: &mut declared,
-        found: checker.found,
+        found: state.found,
     };
     walk_function(&mut walk, owner, count, params, def)
 }

@@ -7,5 +7,5 @@ mod explaining;
 mod modules;
 mod statements;
 
-pub use explaining::explain_flow;
+pub use explaining::{explain_flow, flow_texts};
 pub use modules::check_module;

@@ -1,5 +1,5 @@
 //! The check of a module.
-#![tactic(auto, using(pc_rules::proofs::Checkers::goes_further))]
+#![tactic(auto, using(pc_rules::proofs::TypingStates::goes_further))]
 
 ghost use Rattle.std.specs.Prelude.{◌≡◌, length, map, slice_get, OnOk, Some};
 ghost use Rattle.pc_tree.specs.Tree.{class_of, item_of, module_of};
@@ -9,7 +9,7 @@ ghost use Rattle.pc_types.specs.Store.{KeepsTypes};
 ghost use Rattle.pc_class.specs.Facts.{classes_of};
 ghost use Rattle.pc_class.specs.Tables.{HasEntries, classes_with};
 ghost use Rattle.pc_notes.specs.Notes.{notes_of};
-ghost use Rattle.pc_rules.specs.Computed.Checkers.{CheckerKept};
+ghost use Rattle.pc_rules.specs.Computed.TypingStates.{StateKept};
 ghost use Rattle.pc_rules.specs.Computed.Signatures.{constants_of};
 ghost use Rattle.pc_module_rules.specs.Computed.Modules.{methods_find, bodies_find, module_notes};
 ghost use Rattle.pc_check.specs.Internal.ModuleWalk.{module_in, IsModuleBodies};
@@ -41,20 +41,20 @@ fn count_classes(items: &[Item]) -> usize
     classes
 }
 
-/// Checks the bodies of the methods of the class with this number, in text order, and appends their findings. Language
-/// Reference 3.12, 8.8 "Class definitions".
+/// Checks the bodies of the methods of `def`, which is the class with this number, in text order, and appends their
+/// findings. Language Reference 3.12, 8.8 "Class definitions".
 fn check_methods<S: TypeStore>(
-    checker: &mut TypingState<'_, S>,
+    state: &mut TypingState<'_, S>,
     bodies: &ModuleBodies<'_, S::Ty>,
     class: usize,
     def: &ClassDef,
 ) -> Result<(), OutOfMemory>
-    requires bodies { IsModuleBodies (S.has checker.old.store.now) S.tree bodies.now }
+    requires bodies { IsModuleBodies (S.has state.old.store.now) S.tree bodies.now }
     requires class { slice_get (classes_in (module_in bodies.now).items) class ≡ Some (class_of def.now) }
     ensures found { OnOk result
-        (notes_of checker.new.found.now ≡ methods_find bodies.now.globals.now.keeps (module_in bodies.now)
-        (constants_of (module_in bodies.now)) class 0 (class_of def.now).members (notes_of checker.old.found.now)) }
-    ensures goes_on { CheckerKept S.TypeStore checker.old checker.new }
+        (notes_of state.new.found.now ≡ methods_find bodies.now.globals.now.keeps (module_in bodies.now)
+        (constants_of (module_in bodies.now)) class 0 (class_of def.now).members (notes_of state.old.found.now)) }
+    ensures goes_on { StateKept S.TypeStore state.old state.new }
 {
     let mut methods = 0;
     let members = def.members.as_slice();
@@ -63,7 +63,7 @@ fn check_methods<S: TypeStore>(
             Member::Field(_) => {}
             Member::Method(method) => {
                 let owner = Owner::Method(class, methods);
-                check_owned(checker, bodies, owner, method)?;
+                check_owned(state, bodies, owner, method)?;
                 methods += 1;
             }
         }
@@ -73,14 +73,14 @@ fn check_methods<S: TypeStore>(
 
 /// Checks the bodies of the functions and methods of a module, in text order, and appends their findings.
 fn check_bodies<S: TypeStore>(
-    checker: &mut TypingState<'_, S>,
+    state: &mut TypingState<'_, S>,
     bodies: &ModuleBodies<'_, S::Ty>,
 ) -> Result<(), OutOfMemory>
-    requires { IsModuleBodies (S.has checker.old.store.now) S.tree bodies.now }
+    requires { IsModuleBodies (S.has state.old.store.now) S.tree bodies.now }
     ensures found { OnOk result
-        (notes_of checker.new.found.now ≡ bodies_find bodies.now.globals.now.keeps (module_in bodies.now)
-        (constants_of (module_in bodies.now)) 0 0 (module_in bodies.now).items (notes_of checker.old.found.now)) }
-    ensures goes_on { CheckerKept S.TypeStore checker.old checker.new }
+        (notes_of state.new.found.now ≡ bodies_find bodies.now.globals.now.keeps (module_in bodies.now)
+        (constants_of (module_in bodies.now)) 0 0 (module_in bodies.now).items (notes_of state.old.found.now)) }
+    ensures goes_on { StateKept S.TypeStore state.old state.new }
 {
     let mut classes = 0;
     let mut functions = 0;
@@ -89,11 +89,11 @@ fn check_bodies<S: TypeStore>(
         match &item.kind {
             ItemKind::Constant(_) => {}
             ItemKind::Class(class) => {
-                check_methods(checker, bodies, classes, class)?;
+                check_methods(state, bodies, classes, class)?;
                 classes += 1;
             }
             ItemKind::Def(def) => {
-                check_owned(checker, bodies, Owner::Func(functions), def)?;
+                check_owned(state, bodies, Owner::Func(functions), def)?;
                 functions += 1;
             }
         }
@@ -124,7 +124,7 @@ pub fn check_module<S: TypeStore>(
     ensures found { OnOk result (notes_of found.new ≡ module_notes keeps (module_of tree.now) (notes_of found.old)) }
     ensures kept { KeepsTypes S.has store.old store.new }
 {
-    let mut checker = TypingState {
+    let mut state = TypingState {
         store,
         alloc,
         found,
@@ -135,7 +135,7 @@ pub fn check_module<S: TypeStore>(
         scopes,
         parents,
     };
-    let signatures = read_signatures(&mut checker, &outline, classes, keeps)?;
+    let signatures = read_signatures(&mut state, &outline, classes, keeps)?;
     let known = count_classes(tree.items.as_slice());
     let globals = ModuleContext {
         outline: &outline,
@@ -149,5 +149,5 @@ pub fn check_module<S: TypeStore>(
         globals: &globals,
         signatures: &signatures,
     };
-    check_bodies(&mut checker, &bodies)
+    check_bodies(&mut state, &bodies)
 }

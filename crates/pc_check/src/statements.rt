@@ -11,9 +11,10 @@ ghost use Rattle.pc_flow.specs.Stored.{env_of};
 ghost use Rattle.pc_rules.specs.Computed.ModuleParents.{class_parents};
 ghost use Rattle.pc_module_rules.specs.Computed.Statements.{step, walk_suite, walk_branches, behind_branches};
 ghost use Rattle.pc_walk.specs.Touched.{touched_by, touched_by_branches, touched_by_stmt};
-ghost use Rattle.pc_walk.specs.Walks.{Stands, HoldsWay, WalkKept};
-ghost use Rattle.pc_check.specs.Internal.StatementWalk.{HasAllLocals, IsAsLong, ForkSettles};
-ghost use Rattle.pc_check.specs.Internal.Walked.{StandsIn, ExitSubsumes, StaysSettled, Walked, Forked, reached, forked};
+ghost use Rattle.pc_walk.specs.Walks.{IsValidIn, HoldsWay, WalkKept};
+ghost use Rattle.pc_check.specs.Internal.StatementWalk.{HasAllLocals, IsAsLong, HoldsIfState};
+ghost use Rattle.pc_check.specs.Internal.Walked.{IsValidWith, ExitSubsumes, StaysSubsumed, Walked, Branched, reached};
+ghost use Rattle.pc_check.specs.Internal.Walked.{branching};
 
 use pc_flow::{BothWays, Env, copy_env};
 use pc_source::{OutOfMemory, Place};
@@ -36,11 +37,12 @@ pub(crate) struct LoopExit<Ty: Drop> {
     pub unsettled: Vec<usize>,
 }
 
-/// State of checking the branches of an `if`: the environment where all conditions so far are false, and the joined
-/// environments at the ends of their suites.
+/// State of checking the branches of an `if`.
 #[derive(Drop)]
 struct IfState<Ty: Drop> {
+    /// The environment where all conditions so far are false.
     last: Env<Ty>,
+    /// The joined environments at the ends of the suites so far.
     ways: IfExits<Ty>,
 }
 
@@ -48,9 +50,9 @@ struct IfState<Ty: Drop> {
 /// the environment before them, `None` in unreachable code. Returns the environment after them, `None` if control
 /// cannot get there.
 ///
-/// `exit` is that of the enclosing loop; each `break` is joined into it at the unsettled locals, so at all others its
-/// environment must already subsume `env`. Each statement adds the locals that it touches to the unsettled ones, and a
-/// `break` removes those where a second join would change nothing.
+/// `exit` is the exit of the enclosing loop. A `break` joins its environment into `exit.env` at `exit.unsettled` only;
+/// elsewhere `exit.env` must already subsume `env`. Each statement adds the locals that it touches to `exit.unsettled`,
+/// and a `break` removes those where a second join would change nothing.
 #[cycle(statements)]
 pub(crate) fn check_suite<S: TypeStore>(
     walk: &mut Walk<'_, S>,
@@ -58,10 +60,10 @@ pub(crate) fn check_suite<S: TypeStore>(
     exit: &mut LoopExit<S::Ty>,
     body: &[Stmt],
 ) -> Result<Option<Env<S::Ty>>, OutOfMemory>
-    requires stands { StandsIn S.TypeStore walk.old env exit.old.env }
+    requires stands { IsValidWith S.TypeStore walk.old env exit.old.env }
     requires long { HasAllLocals (reached S.TypeStore walk.old env exit.old.env) }
     requires breaks { ExitSubsumes S.TypeStore walk.old exit.old.unsettled.items env exit.old.env }
-    ensures breaks { OnOk result (StaysSettled S.TypeStore walk.old walk.new
+    ensures breaks { OnOk result (StaysSubsumed S.TypeStore walk.old walk.new
         (λ resolve. touched_by resolve (stmts_of_list body.now)) exit.old.unsettled.items exit.new.unsettled.items env
         exit.old.env exit.new.env) }
     ensures walked { IfOk result (λ out. Walked S.TypeStore walk.old env exit.old.env walk.new out exit.new.env
@@ -75,9 +77,10 @@ pub(crate) fn check_suite<S: TypeStore>(
     Ok(env)
 }
 
-/// Checks one statement as `check_suite` does, with the same `env` and `exit`, and returns the environment after it,
-/// `None` if control cannot get there. If `env` is `None`, the statement is unreachable: it is not checked, and each
-/// local first bound in it is declared `Any`.
+/// Checks one statement, appends its findings, and adds the locals it touches to `exit.unsettled`; returns the
+/// environment after it, `None` if control cannot get there. Each `break` in it is joined into `exit`, the exit of the
+/// enclosing loop. If `env` is `None`, the statement is unreachable: it is not checked, and each local first bound in
+/// it is declared `Any`.
 #[cycle(statements)]
 fn check_next<S: TypeStore>(
     walk: &mut Walk<'_, S>,
@@ -85,15 +88,15 @@ fn check_next<S: TypeStore>(
     exit: &mut LoopExit<S::Ty>,
     statement: &Stmt,
 ) -> Result<Option<Env<S::Ty>>, OutOfMemory>
-    requires stands { StandsIn S.TypeStore walk.old env exit.old.env }
+    requires stands { IsValidWith S.TypeStore walk.old env exit.old.env }
     requires long { HasAllLocals (reached S.TypeStore walk.old env exit.old.env) }
     requires breaks { ExitSubsumes S.TypeStore walk.old exit.old.unsettled.items env exit.old.env }
-    ensures breaks { OnOk result (StaysSettled S.TypeStore walk.old walk.new
+    ensures breaks { OnOk result (StaysSubsumed S.TypeStore walk.old walk.new
         (λ resolve. touched_by_stmt resolve (stmt_of statement.now)) exit.old.unsettled.items exit.new.unsettled.items
         env exit.old.env exit.new.env) }
     ensures settled { IfOk result (λ out. ExitSubsumes S.TypeStore walk.new exit.new.unsettled.items out exit.new.env) }
     ensures walked { IfOk result (λ out. Walked S.TypeStore walk.old env exit.old.env walk.new out exit.new.env
-        (λ f w. step f w.table w.env w.broken w.found (stmt_of statement.now))) }
+        (λ f w. step f w.table w.env w.exit_env w.found (stmt_of statement.now))) }
     ensures goes_on { WalkKept S.TypeStore walk.old walk.new }
 {
     match env {
@@ -110,9 +113,9 @@ fn check_next<S: TypeStore>(
     }
 }
 
-/// Checks a reachable statement, whose first token is at `first`, in `env`. Returns the environment after it, `None` if
-/// control cannot get there. A `break` is joined into `exit` as in `check_suite`, but it is left to the caller to add
-/// the locals that the statement touches to the unsettled ones.
+/// Checks a reachable statement, whose first token is at `first`, in `env`, and appends its findings. Returns the
+/// environment after it, `None` if control cannot get there. Each `break` in it is joined into `exit`, the exit of the
+/// enclosing loop. The caller has to add the locals that the statement touches to `exit.unsettled`.
 #[cycle(statements)]
 fn check_stmt<S: TypeStore>(
     walk: &mut Walk<'_, S>,
@@ -121,14 +124,14 @@ fn check_stmt<S: TypeStore>(
     first: Place,
     kind: &StmtKind,
 ) -> Result<Option<Env<S::Ty>>, OutOfMemory>
-    requires stands { StandsIn S.TypeStore walk.old (Some env) exit.old.env }
+    requires stands { IsValidWith S.TypeStore walk.old (Some env) exit.old.env }
     requires long { HasAllLocals (reached S.TypeStore walk.old (Some env) exit.old.env) }
     requires breaks { ExitSubsumes S.TypeStore walk.old exit.old.unsettled.items (Some env) exit.old.env }
-    ensures breaks { OnOk result (StaysSettled S.TypeStore walk.old walk.new
+    ensures breaks { OnOk result (StaysSubsumed S.TypeStore walk.old walk.new
         (λ resolve. touched_by_stmt resolve (stmt_of_kind first kind.now)) exit.old.unsettled.items
         exit.new.unsettled.items (Some env) exit.old.env exit.new.env) }
     ensures walked { IfOk result (λ out. Walked S.TypeStore walk.old (Some env) exit.old.env walk.new out exit.new.env
-        (λ f w. step f w.table w.env w.broken w.found (stmt_of_kind first kind.now))) }
+        (λ f w. step f w.table w.env w.exit_env w.found (stmt_of_kind first kind.now))) }
     ensures goes_on { WalkKept S.TypeStore walk.old walk.new }
 {
     match kind {
@@ -146,7 +149,11 @@ fn check_stmt<S: TypeStore>(
             let env = check_assert(walk, env, condition, text)?;
             Ok(Some(env))
         }
-        StmtKind::Annotated(name, hint, value) => {
+        StmtKind::Annotated {
+            target: name,
+            annotation: hint,
+            value,
+        } => {
             let env = bind_annotated(walk, env, name, hint, value)?;
             Ok(Some(env))
         }
@@ -159,10 +166,14 @@ fn check_stmt<S: TypeStore>(
             Ok(Some(env))
         }
         StmtKind::While(condition, body) => check_while(walk, &env, body, condition),
-        StmtKind::For(name, iterable, body) => check_for(walk, &env, body, name, iterable),
+        StmtKind::For {
+            target: name,
+            iterable,
+            body,
+        } => check_for(walk, &env, body, name, iterable),
         StmtKind::If(branches, suite) => {
-            let fork = check_branches(walk, env, exit, branches)?;
-            let out = check_otherwise(walk, fork, exit, suite)?;
+            let if_state = check_branches(walk, env, exit, branches)?;
+            let out = check_otherwise(walk, if_state, exit, suite)?;
             Ok(out)
         }
     }
@@ -170,8 +181,9 @@ fn check_stmt<S: TypeStore>(
 
 /// Checks a `while` with `env` before it, and appends the findings: its condition at the loop's head, where each
 /// assigned local that the body binds has its declared type, then its body where the condition is true. Returns the
-/// environment after the loop, never `None`: the one where the condition is false, joined with the one at each `break`
-/// of the loop. Language Reference 8.2 "The while statement".
+/// environment after the loop: the one where the condition is false, joined with the one at each `break` of the loop.
+/// That is never `None`, since it begins with the one where the condition is false; it is an `Option` since the exit of
+/// a loop is one, and the callers of `check_stmt` expect one. Language Reference 8.2 "The while statement".
 #[cycle(statements)]
 fn check_while<S: TypeStore>(
     walk: &mut Walk<'_, S>,
@@ -179,11 +191,11 @@ fn check_while<S: TypeStore>(
     body: &[Stmt],
     condition: &Expr,
 ) -> Result<Option<Env<S::Ty>>, OutOfMemory>
-    requires stands { Stands S.TypeStore walk.old env.now }
+    requires stands { IsValidIn S.TypeStore walk.old env.now }
     requires long { IsAsLong (env_of S.tree walk.old.declared.now) (env_of S.tree env.now) }
     ensures walked { (p : PlaceOf) (way : Option (List (Option S.Ty))) → HoldsWay S.TypeStore walk.old way → IfOk result
         (λ out. Walked S.TypeStore walk.old (Some env.now) way walk.new out way
-        (λ f w. step f w.table w.env w.broken w.found
+        (λ f w. step f w.table w.env w.exit_env w.found
         (while_loop p (expr_of condition.now) (stmts_of_list body.now)))) }
     ensures goes_on { WalkKept S.TypeStore walk.old walk.new }
 {
@@ -201,10 +213,11 @@ fn check_while<S: TypeStore>(
     Ok(exit.env)
 }
 
-/// Checks a `for` with `env` before it, and appends the findings: its iterable in `env`, then its body with the target
-/// `name` bound to an item. Returns the environment after the loop, never `None`: the one at the loop's head, where
-/// each assigned local that the loop binds has its declared type, joined with the one at each `break` of the loop.
-/// Language Reference 8.3 "The for statement".
+/// Checks a `for` with `env` before it, and appends the findings: its iterable in `env`, then its body at the loop's
+/// head, where each assigned local that the loop binds has its declared type, with the target `name` bound to an item.
+/// Returns the environment after the loop: the one at the head, joined with the one at each `break` of the loop. That
+/// is never `None`, since it begins with the one at the head; it is an `Option` since the exit of a loop is one, and
+/// the callers of `check_stmt` expect one. Language Reference 8.3 "The for statement".
 #[cycle(statements)]
 fn check_for<S: TypeStore>(
     walk: &mut Walk<'_, S>,
@@ -213,11 +226,11 @@ fn check_for<S: TypeStore>(
     name: &Name,
     iterable: &Expr,
 ) -> Result<Option<Env<S::Ty>>, OutOfMemory>
-    requires stands { Stands S.TypeStore walk.old env.now }
+    requires stands { IsValidIn S.TypeStore walk.old env.now }
     requires long { IsAsLong (env_of S.tree walk.old.declared.now) (env_of S.tree env.now) }
     ensures walked { (p : PlaceOf) (way : Option (List (Option S.Ty))) → HoldsWay S.TypeStore walk.old way → IfOk result
         (λ out. Walked S.TypeStore walk.old (Some env.now) way walk.new out way
-        (λ f w. step f w.table w.env w.broken w.found
+        (λ f w. step f w.table w.env w.exit_env w.found
         (for_loop p (name_of name.now) (expr_of iterable.now) (stmts_of_list body.now)))) }
     ensures goes_on { WalkKept S.TypeStore walk.old walk.new }
 {
@@ -233,40 +246,43 @@ fn check_for<S: TypeStore>(
     Ok(exit.env)
 }
 
-/// Checks the suite of `else`, an empty one if there is no `else`, where all conditions of an `if` are false; `fork` is
-/// the state after the branches. Returns the environment after the `if`: the joined ends of all its suites, `None` if
-/// none of them can complete. `exit` is that of `check_suite`. Language Reference 8.1 "The if statement".
+/// Checks the suite of `else`, an empty one if there is no `else`, where all conditions of an `if` are false, and
+/// appends its findings; `if_state` is the state after the branches. Returns the environment after the `if`: the joined
+/// ends of all its suites, `None` if none of them can complete. Each `break` is joined into `exit`, the exit of the
+/// enclosing loop, and the locals that the suite touches are added to `exit.unsettled`. Language Reference 8.1 "The if
+/// statement".
 #[cycle(statements)]
 fn check_otherwise<S: TypeStore>(
     walk: &mut Walk<'_, S>,
-    fork: IfState<S::Ty>,
+    if_state: IfState<S::Ty>,
     exit: &mut LoopExit<S::Ty>,
     otherwise: &[Stmt],
 ) -> Result<Option<Env<S::Ty>>, OutOfMemory>
-    requires stands { StandsIn S.TypeStore walk.old (Some fork.last) exit.old.env }
-    requires ways { HoldsWay S.TypeStore walk.old fork.ways.met }
-    requires settled { ForkSettles (class_parents walk.old.context.globals.now) fork.ways.unsettled.items
-        (forked S.TypeStore walk.old fork.last fork.ways.met exit.old.env) }
-    requires breaks { ExitSubsumes S.TypeStore walk.old exit.old.unsettled.items (Some fork.last) exit.old.env }
-    ensures breaks { OnOk result (StaysSettled S.TypeStore walk.old walk.new
+    requires stands { IsValidWith S.TypeStore walk.old (Some if_state.last) exit.old.env }
+    requires ways { HoldsWay S.TypeStore walk.old if_state.ways.met }
+    requires settled { HoldsIfState (class_parents walk.old.context.globals.now) if_state.ways.unsettled.items
+        (branching S.TypeStore walk.old if_state.last if_state.ways.met exit.old.env) }
+    requires breaks { ExitSubsumes S.TypeStore walk.old exit.old.unsettled.items (Some if_state.last) exit.old.env }
+    ensures breaks { OnOk result (StaysSubsumed S.TypeStore walk.old walk.new
         (λ resolve. touched_by resolve (stmts_of_list otherwise.now)) exit.old.unsettled.items exit.new.unsettled.items
-        (Some fork.last) exit.old.env exit.new.env) }
-    ensures walked { IfOk result (λ out. Walked S.TypeStore walk.old (Some fork.last) exit.old.env walk.new out
+        (Some if_state.last) exit.old.env exit.new.env) }
+    ensures walked { IfOk result (λ out. Walked S.TypeStore walk.old (Some if_state.last) exit.old.env walk.new out
         exit.new.env
-        (λ f w. behind_branches f (forked S.TypeStore walk.old fork.last fork.ways.met exit.old.env).ways
+        (λ f w. behind_branches f (branching S.TypeStore walk.old if_state.last if_state.ways.met exit.old.env).ways
         (walk_suite f w (stmts_of_list otherwise.now)))) }
     ensures goes_on { WalkKept S.TypeStore walk.old walk.new }
 {
-    let IfState { last, ways } = fork;
+    let IfState { last, ways } = if_state;
     let out = check_suite(walk, Some(last), exit, otherwise)?;
     let touched = touched_by_if(walk.alloc, walk.context.names, &[], otherwise)?;
     let joined = join_exit(walk, ways, touched, out)?;
     Ok(joined.met)
 }
 
-/// Checks the branches of an `if`, its `if` and each `elif`, in order; `env` is the environment before them. Returns
-/// the environment where all conditions are false, and the joined environments at the ends of the branches' suites.
-/// `exit` is that of `check_suite`.
+/// Checks the branches of an `if`, its `if` and each `elif`, in order, and appends their findings; `env` is the
+/// environment before them. Returns the environment where all conditions are false, and the joined environments at the
+/// ends of the branches' suites. Each `break` is joined into `exit`, the exit of the enclosing loop, and the locals
+/// that the branches touch are added to `exit.unsettled`.
 #[cycle(statements)]
 fn check_branches<S: TypeStore>(
     walk: &mut Walk<'_, S>,
@@ -274,21 +290,21 @@ fn check_branches<S: TypeStore>(
     exit: &mut LoopExit<S::Ty>,
     branches: &[Branch],
 ) -> Result<IfState<S::Ty>, OutOfMemory>
-    requires stands { StandsIn S.TypeStore walk.old (Some env) exit.old.env }
+    requires stands { IsValidWith S.TypeStore walk.old (Some env) exit.old.env }
     requires long { HasAllLocals (reached S.TypeStore walk.old (Some env) exit.old.env) }
     requires breaks { ExitSubsumes S.TypeStore walk.old exit.old.unsettled.items (Some env) exit.old.env }
-    ensures breaks { OnOk result (StaysSettled S.TypeStore walk.old walk.new
+    ensures breaks { OnOk result (StaysSubsumed S.TypeStore walk.old walk.new
         (λ resolve. touched_by_branches resolve (branches_of_list branches.now)) exit.old.unsettled.items
         exit.new.unsettled.items (Some env) exit.old.env exit.new.env) }
-    ensures breaks_settle { IfOk result
+    ensures breaks_subsumed { IfOk result
         (λ k. ExitSubsumes S.TypeStore walk.new exit.new.unsettled.items (Some k.last) exit.new.env) }
-    ensures walked { IfOk result (λ k. Forked S.TypeStore walk.old env None exit.old.env walk.new k.last k.ways.met
+    ensures walked { IfOk result (λ k. Branched S.TypeStore walk.old env None exit.old.env walk.new k.last k.ways.met
         exit.new.env (λ f b. walk_branches f b (branches_of_list branches.now))) }
-    ensures settled { IfOk result (λ k. ForkSettles (class_parents walk.new.context.globals.now)
-        k.ways.unsettled.items (forked S.TypeStore walk.new k.last k.ways.met exit.new.env)) }
+    ensures settled { IfOk result (λ k. HoldsIfState (class_parents walk.new.context.globals.now)
+        k.ways.unsettled.items (branching S.TypeStore walk.new k.last k.ways.met exit.new.env)) }
     ensures goes_on { WalkKept S.TypeStore walk.old walk.new }
 {
-    let mut fork = IfState {
+    let mut if_state = IfState {
         last: env,
         ways: IfExits {
             met: None,
@@ -296,38 +312,39 @@ fn check_branches<S: TypeStore>(
         },
     };
     for branch in branches {
-        fork = check_branch(walk, fork, exit, branch)?;
+        if_state = check_branch(walk, if_state, exit, branch)?;
     }
-    Ok(fork)
+    Ok(if_state)
 }
 
-/// Checks one branch of an `if`: its condition where those before it are false (`fork.last`), and its suite where it is
-/// true. Returns the next state: the environment where its condition is false too, and the ends of the suites before it
-/// joined with the end of its own. `exit` is that of `check_suite`.
+/// Checks one branch of an `if`, and appends its findings: its condition where those before it are false
+/// (`if_state.last`), and its suite where it is true. Returns the next state: the environment where its condition is
+/// false too, and the ends of the suites before it joined with the end of its own. Each `break` is joined into `exit`,
+/// the exit of the enclosing loop, and the locals that the branch touches are added to `exit.unsettled`.
 #[cycle(statements)]
 fn check_branch<S: TypeStore>(
     walk: &mut Walk<'_, S>,
-    fork: IfState<S::Ty>,
+    if_state: IfState<S::Ty>,
     exit: &mut LoopExit<S::Ty>,
     branch: &Branch,
 ) -> Result<IfState<S::Ty>, OutOfMemory>
-    requires stands { StandsIn S.TypeStore walk.old (Some fork.last) exit.old.env }
-    requires ways { HoldsWay S.TypeStore walk.old fork.ways.met }
-    requires settled { ForkSettles (class_parents walk.old.context.globals.now) fork.ways.unsettled.items
-        (forked S.TypeStore walk.old fork.last fork.ways.met exit.old.env) }
-    requires breaks { ExitSubsumes S.TypeStore walk.old exit.old.unsettled.items (Some fork.last) exit.old.env }
-    ensures breaks { OnOk result (StaysSettled S.TypeStore walk.old walk.new
+    requires stands { IsValidWith S.TypeStore walk.old (Some if_state.last) exit.old.env }
+    requires ways { HoldsWay S.TypeStore walk.old if_state.ways.met }
+    requires settled { HoldsIfState (class_parents walk.old.context.globals.now) if_state.ways.unsettled.items
+        (branching S.TypeStore walk.old if_state.last if_state.ways.met exit.old.env) }
+    requires breaks { ExitSubsumes S.TypeStore walk.old exit.old.unsettled.items (Some if_state.last) exit.old.env }
+    ensures breaks { OnOk result (StaysSubsumed S.TypeStore walk.old walk.new
         (λ resolve. touched_by_branches resolve (with_branch branch.now no_branches)) exit.old.unsettled.items
-        exit.new.unsettled.items (Some fork.last) exit.old.env exit.new.env) }
-    ensures breaks_settle { IfOk result
+        exit.new.unsettled.items (Some if_state.last) exit.old.env exit.new.env) }
+    ensures breaks_subsumed { IfOk result
         (λ k. ExitSubsumes S.TypeStore walk.new exit.new.unsettled.items (Some k.last) exit.new.env) }
-    ensures walked { IfOk result (λ k. Forked S.TypeStore walk.old fork.last fork.ways.met exit.old.env walk.new k.last
-        k.ways.met exit.new.env (λ f b. walk_branches f b (with_branch branch.now no_branches))) }
-    ensures settled { IfOk result (λ k. ForkSettles (class_parents walk.new.context.globals.now)
-        k.ways.unsettled.items (forked S.TypeStore walk.new k.last k.ways.met exit.new.env)) }
+    ensures walked { IfOk result (λ k. Branched S.TypeStore walk.old if_state.last if_state.ways.met exit.old.env walk.new
+        k.last k.ways.met exit.new.env (λ f b. walk_branches f b (with_branch branch.now no_branches))) }
+    ensures settled { IfOk result (λ k. HoldsIfState (class_parents walk.new.context.globals.now)
+        k.ways.unsettled.items (branching S.TypeStore walk.new k.last k.ways.met exit.new.env)) }
     ensures goes_on { WalkKept S.TypeStore walk.old walk.new }
 {
-    let IfState { last, ways } = fork;
+    let IfState { last, ways } = if_state;
     let BothWays {
         where_true,
         where_false,

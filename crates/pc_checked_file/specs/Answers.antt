@@ -13,12 +13,15 @@ use Rattle.pc_top.specs.TypesOfBytes.{IsListed, ListsTypesOf, listing_bytes}
 use Rattle.pc_top.specs.declared.fault.CheckFault.{CheckFault}
 use Rattle.pc_top.specs.declared.fault.CheckFault.TheVariants as check_fault
 use Rattle.pc_top.specs.declared.stream.FindingCounts.{FindingCounts}
+use Rattle.pc_checked_file.specs.declared.asked.AnswerKind.{AnswerKind}
+use Rattle.pc_checked_file.specs.declared.asked.AnswerKind.TheVariants as answer
 use Rattle.pc_checked_file.specs.declared.asked.Asked.{Asked}
 
--- P holds where a choice is true, and Q where it is false
-abbrev pub Chosen : (P Q : Type 0) → Bool → Type 0
-Chosen P Q true = P
-Chosen P Q false = Q
+-- the kind of answer for the words of a command line: details come before types, and types before a report
+abbrev pub answer_of : (details types : Bool) → Format → AnswerKind
+answer_of true types format = answer.Details
+answer_of false true format = answer.Types
+answer_of false false format = answer.Report format
 
 -- the fault is unchanged, or that of an allocation that failed when the line of a refusal was made
 abbrev pub IsExplainedAs : (old new : CheckFault) → Type 0
@@ -50,16 +53,6 @@ module _ {W : Type 0} (contents : W → Option (List ℕ)) where
     pub count : ℕ
     pub written : Appends (contents old.device) (contents new.device) (take count (listing_bytes json types))
 
-  -- standard output after an outcome: it has the whole report or listing with these numbers, or a beginning of it if
-  -- the writer failed, and is the same otherwise
-  abbrev pub IsOutput : (told : Option (List ℕ)) → Asked → Result FindingCounts CheckFault → (old new : Counted W) → Type 0
-  IsOutput told asked (Ok counts) old new =
-      Chosen (IsListed contents told asked.json old new counts.errors counts.dynamic)
-      (IsReported contents told asked.json asked.format old new counts.errors counts.dynamic) asked.types
-  IsOutput told asked (Err check_fault.Write) old new =
-      Chosen (IsListingCut told asked.json old new) (IsReportCut told asked.json asked.format old new) asked.types
-  IsOutput told asked _ old new = new ≡ old
-
   -- the first bytes of the report of the reader's bytes with its details are written, up to some number
   pub record IsPrintingCut (told : Option (List ℕ)) (json : Bool) (old new : Counted W) : Type 0 where
     pub bytes : List ℕ
@@ -70,11 +63,22 @@ module _ {W : Type 0} (contents : W → Option (List ℕ)) where
     pub count : ℕ
     pub written : Appends (contents old.device) (contents new.device) (take count printed)
 
-  -- standard output with details: the whole report with these numbers, or a beginning of it if the writer failed; it is
-  -- the same otherwise
-  abbrev pub IsPrintedOutput : (told : Option (List ℕ)) → (json : Bool) → Result FindingCounts CheckFault
-      → (old new : Counted W) → Type 0
-  IsPrintedOutput told json (Ok counts) old new =
-      IsPrinted contents told json old new counts.errors counts.dynamic
-  IsPrintedOutput told json (Err check_fault.Write) old new = IsPrintingCut told json old new
-  IsPrintedOutput told json _ old new = new ≡ old
+  -- the whole answer of a kind to the reader's bytes is written, with these numbers of errors and of dynamic places
+  abbrev pub IsWholeAnswer : (told : Option (List ℕ)) → (json : Bool) → AnswerKind → FindingCounts → (old new : Counted W) → Type 0
+  IsWholeAnswer told json (answer.Report format) counts old new =
+      IsReported contents told json format old new counts.errors counts.dynamic
+  IsWholeAnswer told json answer.Details counts old new = IsPrinted contents told json old new counts.errors counts.dynamic
+  IsWholeAnswer told json answer.Types counts old new = IsListed contents told json old new counts.errors counts.dynamic
+
+  -- the first bytes of the answer of a kind to the reader's bytes are written, up to some number
+  abbrev pub IsAnswerCut : (told : Option (List ℕ)) → (json : Bool) → AnswerKind → (old new : Counted W) → Type 0
+  IsAnswerCut told json (answer.Report format) old new = IsReportCut told json format old new
+  IsAnswerCut told json answer.Details old new = IsPrintingCut told json old new
+  IsAnswerCut told json answer.Types old new = IsListingCut told json old new
+
+  -- standard output after an outcome: it has the whole answer with these numbers, or a beginning of it if the writer
+  -- failed, and is the same otherwise
+  abbrev pub IsOutput : (told : Option (List ℕ)) → Asked → Result FindingCounts CheckFault → (old new : Counted W) → Type 0
+  IsOutput told asked (Ok counts) old new = IsWholeAnswer told asked.json asked.answer counts old new
+  IsOutput told asked (Err check_fault.Write) old new = IsAnswerCut told asked.json asked.answer old new
+  IsOutput told asked _ old new = new ≡ old

@@ -7,7 +7,7 @@ mod file;
 mod status;
 mod telling;
 
-pub use asked::Asked;
-pub use file::{check_file, explain_file};
+pub use asked::{AnswerKind, Asked};
+pub use file::check_file;
 pub use pc_top::{CheckFault, FindingCounts, Format};
 pub use status::status_of;

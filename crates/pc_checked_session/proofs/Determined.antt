@@ -29,13 +29,12 @@ use Rattle.pc_checked_session.proofs.OneTypeAt.{one_type_at}
 use Rattle.pc_documents.specs.declared.checker.CheckOutcome.{CheckOutcome}
 use Rattle.pc_documents.specs.declared.checker.CheckOutcome.TheVariants.{Items, Refused}
 use Rattle.pc_documents.specs.CheckerAnswers.{outcome, type_shown}
-use Rattle.pc_documents.specs.Diagnostics.{diagnostics_limit}
 use Rattle.pc_documents.specs.declared.checker.ReportedFinding.{ReportedFinding}
 use Rattle.pc_session.specs.Exchanges.{IsDetermined, RepliesAreDetermined}
 use Rattle.pc_documents.specs.Said.{said_by as said_by_found, SayTheSame}
 use Rattle.pc_session.proofs.Determined.{determined}
 use Rattle.pc_checked_session.specs.Found.{Said, shown, shown_flow, detail_said, said_with, said_by_item, said_by_row}
-use Rattle.pc_checked_session.specs.Found.{said_by_rows, told_of_rows, types_of_row, IsFoundIn, IsOutcomeOf}
+use Rattle.pc_checked_session.specs.Found.{said_by_rows, told_limit, told_of_rows, types_of_row, IsFoundIn, IsOutcomeOf}
 
 some_inj : {A : Type 0} {x y : A} → Some x ≡ Some y → x ≡ y
 some_inj e = grind arith
@@ -103,14 +102,14 @@ says_long : (rows : List Row) → length (map said_by rows) ≡ length rows
 says_long [] = refl
 says_long (row ∷ rows) = ap suc (says_long rows)
 
--- what rows say, with the details that they are told
-abbrev all_said : (Finding → Option (Detail Words)) → List RowSays → List Said
-all_said told says = map (said_of (told_within diagnostics_limit (length says) told)) says
+-- the content of the rows of a text, with the details that they are told
+abbrev all_said : List ℕ → (Finding → Option (Detail Words)) → List RowSays → List Said
+all_said text told says = map (said_of (told_within (told_limit text) (length says) told)) says
 
-all_alike : (told : Finding → Option (Detail Words)) (rows : List Row)
-    → said_by_rows told rows ≡ all_said told (map said_by rows)
-all_alike told rows = rows_say (told_of_rows rows told) rows
-    ∙ ap (λ (n : ℕ). map (said_of (told_within diagnostics_limit n told)) (map said_by rows)) (sym (says_long rows))
+all_alike : (text : List ℕ) (told : Finding → Option (Detail Words)) (rows : List Row)
+    → said_by_rows text told rows ≡ all_said text told (map said_by rows)
+all_alike text told rows = rows_say (told_of_rows text rows told) rows
+    ∙ ap (λ (n : ℕ). map (said_of (told_within (told_limit text) n told)) (map said_by rows)) (sym (says_long rows))
 
 -- ---- items
 
@@ -122,14 +121,14 @@ items_say [] = refl
 items_say (item ∷ items) = ap (λ xs. said_by_found item ∷ xs) (items_say items)
 
 rows_same : (text : List ℕ) (rows others : List Row) (a : Headline text rows) (b : Headline text others)
-    → said_by_rows (detail_in a.whole) rows ≡ said_by_rows (detail_in b.whole) others
+    → said_by_rows text (detail_in a.whole) rows ≡ said_by_rows text (detail_in b.whole) others
 rows_same text rows others a b =
     let told : Finding → Option (Detail Words) = detail_in a.whole in
     let module_same : b.whole ≡ a.whole = a.only b.whole b.spelled in
-    all_alike told rows
-    ∙ (ap (all_said told) (one_report text rows others a b)
-    ∙ (sym (all_alike told others)
-    ∙ ap (λ (m : Module). said_by_rows (detail_in m) others) (sym module_same)))
+    all_alike text told rows
+    ∙ (ap (all_said text told) (one_report text rows others a b)
+    ∙ (sym (all_alike text told others)
+    ∙ ap (λ (m : Module). said_by_rows text (detail_in m) others) (sym module_same)))
 
 say_the_same : (text : List ℕ) (one other : CheckOutcome) → IsOutcomeOf text one → IsOutcomeOf text other
     → SayTheSame one other

@@ -122,7 +122,7 @@ module _ (agreed : Agreed) (text uri : List ℕ) where
         headline = answers.1;
         told = told;
         tells = details_told_of answers.1.whole;
-        are = are ∙ ap limited (same_data (told_of_rows answers.0 told) items.items answers.0 answers.2);
+        are = are ∙ ap limited (same_data (told_of_rows text answers.0 told) items.items answers.0 answers.2);
       })
   of_found diagnostics (Refused refusal) answers are =
       inr (record { refusal = refusal; of_text = answers; are = are })

@@ -69,13 +69,22 @@ said_with detail row = record { finding = row.finding; flow = shown_flow (row_fl
 abbrev pub said_by_row : (Finding → Option (Detail Words)) → Row → Said
 said_by_row told row = said_with (option_map (detail_said row.finding.code) (told row.finding)) row
 
--- the detail that a finding of rows is told: its own; none if there are more rows than there may be diagnostics
-abbrev pub told_of_rows : List Row → (Finding → Option (Detail Words)) → Finding → Option (Detail Words)
-told_of_rows rows = told_within diagnostics_limit (length rows)
+-- the length in bytes up to which a text has the details of all its findings
+abbrev pub whole_length : ℕ
+whole_length = 262144
 
--- the content of rows, as far as it is shown
-abbrev pub said_by_rows : (Finding → Option (Detail Words)) → List Row → List Said
-said_by_rows told rows = map (said_by_row (told_of_rows rows told)) rows
+-- the greatest number of rows of a text whose details are told: any number that a word holds for a text of that length,
+-- and as many as there may be diagnostics for a longer one
+abbrev pub told_limit : List ℕ → ℕ
+told_limit text = if nat_lt whole_length (length text) then diagnostics_limit else 18446744073709551615
+
+-- the detail that a finding of a text's rows is told: its own; none if there are more rows than its limit
+abbrev pub told_of_rows : List ℕ → List Row → (Finding → Option (Detail Words)) → Finding → Option (Detail Words)
+told_of_rows text rows = told_within (told_limit text) (length rows)
+
+-- the content of the rows of a text, as far as it is shown
+abbrev pub said_by_rows : List ℕ → (Finding → Option (Detail Words)) → List Row → List Said
+said_by_rows text told rows = map (said_by_row (told_of_rows text rows told)) rows
 
 -- the texts of the two types of an item's flow
 abbrev pub flow_type_texts : FlowTypes → List ℕ × List ℕ
@@ -90,10 +99,10 @@ said_by_item item = record {
 }
 
 -- the findings of a text: items with the content, in order, of rows for which the headline holds, with the details of
--- their findings if there are not too many rows; or its refusal
+-- their findings unless the text is long and has too many rows; or its refusal
 abbrev pub IsOutcomeOf : List ℕ → CheckOutcome → Type 0
 IsOutcomeOf text (Items items) = (rows : List Row) × (headline : Headline text rows)
-    × (map said_by_item items.items ≡ said_by_rows (detail_in headline.whole) rows)
+    × (map said_by_item items.items ≡ said_by_rows text (detail_in headline.whole) rows)
 IsOutcomeOf text (Refused refusal) = IsRefusalOf text refusal
 
 -- the types of a row as a text, as `--types` prints them: of an expression its type; of a name its declared type and, if it

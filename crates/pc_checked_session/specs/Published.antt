@@ -58,14 +58,14 @@ row_data agreed text uri told row = diagnostic_data (entry_at agreed.codes_page 
     (text_of row.finding.code) (row_message row.finding.code (shown_flow (row_flow row)) (told row.finding))
 
 -- the diagnostics of the text of the document with this address are exactly the rows of a report for which the headline
--- holds, in order, each with the detail that explains its finding; of too many rows the first ones, without details, and
--- a last one that says how many more there are
+-- holds, in order, each with the detail that explains its finding; of too many rows the first ones, without details if the
+-- text is long, and a last one that says how many more there are
 pub record AreRows (agreed : Agreed) (text uri : List ℕ) (diagnostics : List Data) : Type 0 where
   pub rows : List Row
   pub headline : Headline text rows
   pub told : Finding → Option (Detail Words)
   pub tells : TellsDetails headline.whole told
-  pub are : diagnostics ≡ limited (map (row_data agreed text uri (told_of_rows rows told)) rows)
+  pub are : diagnostics ≡ limited (map (row_data agreed text uri (told_of_rows text rows told)) rows)
 
 -- there is exactly one diagnostic, at the character of the byte of the text's refusal
 pub record IsRefusalAlone (agreed : Agreed) (text : List ℕ) (diagnostics : List Data) : Type 0 where

@@ -5,13 +5,12 @@ ghost use Rattle.pc_tree.specs.declared.code.Finding.{Finding};
 ghost use Rattle.pc_detail_texts.specs.Details.{Detail};
 ghost use Rattle.pc_detail_texts.specs.Sentences.{Words};
 ghost use Rattle.pc_report.specs.Report.{row_findings};
-ghost use Rattle.pc_documents.specs.Diagnostics.{diagnostics_limit};
 ghost use Rattle.pc_documents.specs.Said.{told_by};
 ghost use Rattle.pc_top.specs.DetailsWithin.{DetailedWithin};
 ghost use Rattle.pc_top.specs.PrintedDetails.{AreLeft};
 ghost use Rattle.pc_message_loop.specs.Runs.{OnEnd};
 ghost use Rattle.pc_checked_session.specs.Found.{flow_type_texts, shown, held_said, said_with, said_by_item, said_by_row};
-ghost use Rattle.pc_checked_session.specs.Found.{types_of_row, IsOutcomeOf, IsFoundIn};
+ghost use Rattle.pc_checked_session.specs.Found.{told_limit, types_of_row, IsOutcomeOf, IsFoundIn};
 
 use pc_detail_texts::{other_places, push_sentence};
 use pc_documents::{CheckOutcome, Checker, FlowTypes, ReportedFinding, ToldDetail};
@@ -102,13 +101,27 @@ fn items_of(
     Ok(items)
 }
 
-/// The greatest number of rows whose details are told: as many as there may be diagnostics of a text. Details take as much
-/// memory again as a check.
+/// The length in bytes up to which a text has the details of all its findings.
+const WHOLE_LENGTH: usize = 262_144;
+
+/// The greatest number of rows of a longer text whose details are told: as many as there may be diagnostics of a text.
+/// Details take as much memory again as a check.
 const TOLD_LIMIT: usize = 1000;
+
+/// Returns the greatest number of rows of a text whose details are told.
+fn limit_of(text: &str) -> usize
+    ensures { result ≡ told_limit text.now }
+{
+    if text.len() > WHOLE_LENGTH {
+        TOLD_LIMIT
+    } else {
+        usize::MAX
+    }
+}
 
 /// Returns the rows of the report of a text as an outcome, and frees the report.
 fn outcome_of(alloc: Global, found: DetailedReport) -> Result<CheckOutcome, OutOfMemory>
-    ensures { (text : List ℕ) → DetailedWithin text diagnostics_limit found → IfOk result (IsOutcomeOf text) }
+    ensures { (text : List ℕ) → DetailedWithin text (told_limit text) found → IfOk result (IsOutcomeOf text) }
 {
     let items = items_of(alloc, found.report().rows(), found.details());
     // Proofs take long where a report goes out of scope.
@@ -137,7 +150,7 @@ impl Checker for Proved {
     ghost answers = { λ _ text answer. IsFoundIn text answer };
 
     fn find(&self, alloc: Global, text: &str) -> Result<CheckOutcome, OutOfMemory> {
-        let found = match check_explained_within(alloc, text.as_bytes(), TOLD_LIMIT) {
+        let found = match check_explained_within(alloc, text.as_bytes(), limit_of(text)) {
             Ok(found) => found,
             Err(fault) => return Ok(CheckOutcome::Refused(fault.refusal()?)),
         };

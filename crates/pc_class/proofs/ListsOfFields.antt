@@ -1,12 +1,13 @@
 -- The lists of the fields of classes: with one more field, and after others are added.
-use Rattle.std.proofs.Common.{◌≡◌, ◌<◌, ◌≤◌, ◌+◌, ◌-◌, ◌≢◌, ℕ, zero, suc, List, [], ◌∷◌, ◌++◌, length, get_or, refl}
+use Rattle.std.proofs.Common.{◌≡◌, ◌<◌, ◌≤◌, ◌+◌, ◌≢◌, ℕ, zero, suc, List, [], ◌∷◌, ◌++◌, length, get_or, refl}
 use Rattle.std.proofs.Common.{sym, ap}
-use Rattle.std.proofs.Common.{◌∙◌, ◌⊎◌, inl, inr, subst, arith, length-append, append_assoc, append-nil}
+use Rattle.std.proofs.Common.{take, map, ◌∙◌, ◌⊎◌, inl, inr, subst, arith, length-append, append_assoc, append-nil}
 use Rattle.std.specs.Prelude.{Bool, true, false, if◌then◌else◌, ◌==◌, Option, Some, None, slice_get, slice_index_or}
 use Rattle.std.specs.Prelude.{IfSome, MatchOption, not}
 use Rattle.std.specs.Borrow.{Bor}
 use Rattle.std.specs.Option.{option_map}
-use Rattle.std.proofs.lemmas.Option.{slice_get_read}
+use Rattle.std.proofs.lemmas.List.{take_more}
+use Rattle.std.proofs.lemmas.Option.{slice_get_read, slice_get_within, get_or_from_slice_get}
 use Rattle.std.proofs.lemmas.Bool.Decides.{nat_tests}
 use Rattle.std.proofs.Math.Seq.{get_or-append_seam}
 use Rattle.pc_scope.specs.Resolution.{index_of}
@@ -16,7 +17,7 @@ use Rattle.pc_shared_maps.specs.declared.lists.SharedLists.{SharedLists}
 use Rattle.pc_shared_maps.specs.SharedLists.{empty_list, list_place_at, needed_or, needed_at, HasRoom, AreNamed, KeepsLists}
 use Rattle.pc_shared_maps.proofs.Naming.{map_end, map_length}
 use Rattle.pc_class.specs.declared.table.Parameter.{Parameter as RustParameter}
-use Rattle.pc_class.specs.FieldLists.{IsListPlace, IsSeatIfAny, IsListOf, fields_in, list_at}
+use Rattle.pc_class.specs.FieldLists.{IsListPlace, IsListPlaceIfAny, IsListOf, fields_in, list_at}
 use Rattle.pc_class.specs.Listed.{names_listed, needed_in, is_defaulted, parameter_name}
 use Rattle.pc_class.specs.Parts.{items_in_span}
 use Rattle.pc_class.specs.Tables.{ClassEntry, empty_entry, inherited_entry}
@@ -24,13 +25,13 @@ use Rattle.pc_class.proofs.TableFields.{span, part_more, part_none}
 use Rattle.pc_class.proofs.TableMore.{get_before, get_last, index_before}
 
 pub lists_same : (s : SharedLists) → KeepsLists s s
-lists_same s = record { room = λ l r. r; names = λ l word r. refl; seats = λ l place r. refl }
+lists_same s = record { room = λ l r. r; names = λ l word r. refl; list_places = λ l place r. refl }
 
 pub lists_on : (s t u : SharedLists) → KeepsLists s t → KeepsLists t u → KeepsLists s u
 lists_on s t u k m = record {
   room = λ l r. m.room l (k.room l r);
   names = λ l word r. m.names l word (k.room l r) ∙ k.names l word r;
-  seats = λ l place r. m.seats l place (k.room l r) ∙ k.seats l place r;
+  list_places = λ l place r. m.list_places l place (k.room l r) ∙ k.list_places l place r;
 }
 
 -- the number of needed fields, by whether there is a default
@@ -48,18 +49,18 @@ module _ {Ty : Type 0} where
     count = h.count;
     needed = h.needed;
     names = λ word. k.names l word h.room ∙ h.names word;
-    seats = λ place. subst (IsSeatIfAny fields these place) (sym (k.seats l place h.room)) (h.seats place);
+    list_places = λ place. subst (IsListPlaceIfAny fields these place) (sym (k.list_places l place h.room)) (h.list_places place);
   }
 
   -- the list without fields
   pub list_of_none : (s : SharedLists) (fields : List (RustParameter Ty)) → HasRoom s empty_list
       → AreNamed s empty_list [] → ((place : ℕ) → list_place_at s empty_list place ≡ None) → IsListOf fields s [] empty_list
-  list_of_none s fields room names seats = record {
+  list_of_none s fields room names list_places = record {
     room = room;
     count = refl;
     needed = refl;
     names = names;
-    seats = λ place. subst (IsSeatIfAny fields [] place) (sym (seats place)) (omega arith);
+    list_places = λ place. subst (IsListPlaceIfAny fields [] place) (sym (list_places place)) (omega arith);
   }
 
   -- the fields without default before a place do not depend on those behind
@@ -81,7 +82,7 @@ module _ {Ty : Type 0} where
       (needed : m.needed ≡ (if needs then l.count + 1 else l.needed))
       (names : (ns : List (List ℕ)) → AreNamed s l ns → l.count ≡ length ns
       → AreNamed t m (ns ++ parameter_name x ∷ []))
-      (seats : (place : ℕ) → list_place_at t m place ≡ (if place == l.count then Some (let q : ListPlace = record {
+      (list_places : (place : ℕ) → list_place_at t m place ≡ (if place == l.count then Some (let q : ListPlace = record {
         number = number;
         needed = l.needed;
       } in q) else list_place_at s l place)) where
@@ -91,30 +92,30 @@ module _ {Ty : Type 0} where
     longer : length all ≡ suc (length these)
     longer = let e = length-append these (x ∷ []) in omega (arith, e)
 
-    abbrev seat : ListPlace
-    seat = record { number = number; needed = l.needed }
+    abbrev list_place : ListPlace
+    list_place = record { number = number; needed = l.needed }
 
-    seat_here : (k : ℕ) → k ≡ length these → IsListPlace fields all k seat
-    seat_here k e = record {
+    list_place_here : (k : ℕ) → k ≡ length these → IsListPlace fields all k list_place
+    list_place_here k e = record {
       within = let f = longer in omega (arith, e, f);
       field = there ∙ sym (ap (slice_get all) e ∙ get_last these x);
       needed = h.needed ∙ sym (ap (needed_in all) e ∙ needed_front these (x ∷ []) (length these) (omega arith));
     }
 
-    seat_before : (k : ℕ) → k ≢ length these → (o : Option ListPlace) → IsSeatIfAny fields these k o
-        → IsSeatIfAny fields all k o
-    seat_before k other None less = let f = longer in omega (arith, f, less, other)
-    seat_before k other (Some q) g = let w = g.within in record {
+    list_place_before : (k : ℕ) → k ≢ length these → (o : Option ListPlace) → IsListPlaceIfAny fields these k o
+        → IsListPlaceIfAny fields all k o
+    list_place_before k other None less = let f = longer in omega (arith, f, less, other)
+    list_place_before k other (Some q) g = let w = g.within in record {
       within = let f = longer in omega (arith, f, w);
       field = g.field ∙ sym (get_before these (x ∷ []) k w);
       needed = g.needed ∙ sym (needed_front these (x ∷ []) k (omega (arith, w)));
     }
 
-    seat_more : (k : ℕ) (b : Bool) → (k == l.count) ≡ b
-        → IsSeatIfAny fields all k (if b then Some seat else list_place_at s l k)
-    seat_more k true e = let c = h.count in seat_here k (grind (arith, nat_tests, e, c))
-    seat_more k false e = let c = h.count in
-        seat_before k (λ f. absurd (grind (arith, nat_tests, e, f, c))) (list_place_at s l k) (h.seats k)
+    list_place_more : (k : ℕ) (b : Bool) → (k == l.count) ≡ b
+        → IsListPlaceIfAny fields all k (if b then Some list_place else list_place_at s l k)
+    list_place_more k true e = let c = h.count in list_place_here k (grind (arith, nat_tests, e, c))
+    list_place_more k false e = let c = h.count in
+        list_place_before k (λ f. absurd (grind (arith, nat_tests, e, f, c))) (list_place_at s l k) (h.list_places k)
 
     one_more : l.count + 1 ≡ suc (length these)
     one_more = let c = h.count in omega (arith, c)
@@ -129,7 +130,7 @@ module _ {Ty : Type 0} where
           ∙ sym (ap (needed_in all) longer ∙ needed_end these x);
       names = λ word. names (names_listed these) h.names (h.count ∙ sym (map_length parameter_name these)) word
           ∙ ap (index_of word) (sym (map_end parameter_name these x));
-      seats = λ k. subst (IsSeatIfAny fields all k) (sym (seats k)) (seat_more k (k == l.count) refl);
+      list_places = λ k. subst (IsListPlaceIfAny fields all k) (sym (list_places k)) (list_place_more k (k == l.count) refl);
     }
 
 -- ---- a part with one more
@@ -218,20 +219,20 @@ module _ {Ty : Type 0} (fields these : List (RustParameter Ty)) (s : SharedLists
     (h : IsListOf fields s these l) (place : ℕ) where
   -- up to where there is a field without default before a place
   pub needed_told : place ≤ length these → needed_at s l place ≡ needed_in these place
-  needed_told within = go (list_place_at s l place) (h.seats place)
+  needed_told within = go (list_place_at s l place) (h.list_places place)
     where
-      go : (o : Option ListPlace) → IsSeatIfAny fields these place o → needed_or l.needed o ≡ needed_in these place
+      go : (o : Option ListPlace) → IsListPlaceIfAny fields these place o → needed_or l.needed o ≡ needed_in these place
       go None past = h.needed ∙ ap (needed_in these)
           (let e : length these ≡ place = omega (arith, past, within) in e)
       go (Some q) is = is.needed
 
-  -- no field at a place without a seat
-  pub no_seat : list_place_at s l place ≡ None → slice_get these place ≡ None
-  no_seat none = get_past these place (subst (IsSeatIfAny fields these place) none (h.seats place))
+  -- no field at a place without a list place
+  pub no_list_place : list_place_at s l place ≡ None → slice_get these place ≡ None
+  no_list_place none = get_past these place (subst (IsListPlaceIfAny fields these place) none (h.list_places place))
 
-  -- the field of a seat
-  pub field_of_seat : (q : ListPlace) → list_place_at s l place ≡ Some q → slice_get fields q.number ≡ slice_get these place
-  field_of_seat q is = (subst (IsSeatIfAny fields these place) is (h.seats place)).field
+  -- the field of a list place
+  pub field_of_list_place : (q : ListPlace) → list_place_at s l place ≡ Some q → slice_get fields q.number ≡ slice_get these place
+  field_of_list_place q is = (subst (IsListPlaceIfAny fields these place) is (h.list_places place)).field
 
 -- an element got from a slice
 pub got_at : {X : Type 0} (Q : X → Type 0) (xs : List X) (i : ℕ) (o : Option (Bor X))
@@ -239,3 +240,18 @@ pub got_at : {X : Type 0} (Q : X → Type 0) (xs : List X) (i : ℕ) (o : Option
     → option_map (λ (x : Bor X). x.now) o ≡ slice_get xs i
 got_at Q xs i None is within = sym (get_past xs i within)
 got_at Q xs i (Some x) is within = sym (slice_get_read xs (length xs) i x.now refl within.0 is)
+
+-- the first elements, and one more
+pub one_taken : {X Y : Type 0} (f : X → Y) (taken : List X) (xs : List Y) (i : ℕ) (x : X) → map f taken ≡ take i xs
+    → Some (f x) ≡ slice_get xs i → map f (taken ++ x ∷ []) ≡ take (i + 1) xs
+one_taken f taken xs i x is there =
+    map_end f taken x
+    ∙ ap (λ ys. ys ++ f x ∷ []) is
+    ∙ ap (λ y. take i xs ++ y ∷ []) (sym (get_or_from_slice_get xs i (f x) (f x) (sym there)))
+    ∙ sym (take_more xs i (f x) (slice_get_within xs i (f x) (sym there)))
+
+-- without an element at a place, it is past the end
+pub past_end : {X : Type 0} (xs : List X) (i : ℕ) → None ≡ slice_get xs i → length xs ≤ i
+past_end [] i none = omega arith
+past_end (x ∷ xs) zero none = absurd (grind (arith, none))
+past_end (x ∷ xs) (suc i) none = let past = past_end xs i none in omega (arith, past)

@@ -24,16 +24,16 @@ abbrev pub fields_in : {Ty : Type 0} → List (ClassEntry Ty) → ℕ → List (
 fields_in es class = (inherited_entry es (Some class)).fields
 
 module _ {Ty : Type 0} (fields : List (RustParameter Ty)) where
-  -- a seat is that of a place of these fields
-  pub record IsListPlace (these : List (RustParameter Ty)) (place : ℕ) (seat : ListPlace) : Type 0 where
+  -- a list place is that of a place of these fields
+  pub record IsListPlace (these : List (RustParameter Ty)) (place : ℕ) (list_place : ListPlace) : Type 0 where
     pub within : place < length these
-    pub field : slice_get fields seat.number ≡ slice_get these place
-    pub needed : seat.needed ≡ needed_in these place
+    pub field : slice_get fields list_place.number ≡ slice_get these place
+    pub needed : list_place.needed ≡ needed_in these place
 
-  -- a seat, if there is one, is that of a place of these fields; else the place is past their end
-  abbrev pub IsSeatIfAny : List (RustParameter Ty) → ℕ → Option ListPlace → Type 0
-  IsSeatIfAny these place None = length these ≤ place
-  IsSeatIfAny these place (Some seat) = IsListPlace these place seat
+  -- a list place, if there is one, is that of a place of these fields; else the place is past their end
+  abbrev pub IsListPlaceIfAny : List (RustParameter Ty) → ℕ → Option ListPlace → Type 0
+  IsListPlaceIfAny these place None = length these ≤ place
+  IsListPlaceIfAny these place (Some list_place) = IsListPlace these place list_place
 
   -- a shared list is the list of these fields
   pub record IsListOf (s : SharedLists) (these : List (RustParameter Ty)) (l : SharedList) : Type 0 where
@@ -41,7 +41,7 @@ module _ {Ty : Type 0} (fields : List (RustParameter Ty)) where
     pub count : l.count ≡ length these
     pub needed : l.needed ≡ needed_in these (length these)
     pub names : AreNamed s l (names_listed these)
-    pub seats : (place : ℕ) → IsSeatIfAny these place (list_place_at s l place)
+    pub list_places : (place : ℕ) → IsListPlaceIfAny these place (list_place_at s l place)
 
   -- there is a list for each class, and one for no class
   abbrev pub AreClassLists : ClassLists → List (ClassEntry Ty) → Type 0

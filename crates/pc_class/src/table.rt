@@ -1,7 +1,7 @@
 //! The class table, its fields and its methods.
 
 ghost use Rattle.std.specs.Prelude.{◌≡◌, ◌↔◌, ◌<◌, ◌≤◌, ◌-◌, ◌++◌, List, take, drop, length, slice_get, slice_index_or};
-ghost use Rattle.std.specs.Prelude.{ℕ, IsTrue};
+ghost use Rattle.std.specs.Prelude.{ℕ, map, IfOk, IsTrue};
 ghost use Rattle.std.specs.Option.{option_copied, option_map};
 ghost use Rattle.pc_scope.specs.Resolution.{index_of};
 ghost use Rattle.pc_types.specs.Below.{Below};
@@ -19,8 +19,9 @@ use crate::field_lists::ClassLists;
 use crate::listed::ParameterList;
 use crate::parts::ClassArena;
 use pc_shared_maps::NamedMaps;
-use pc_source::Place;
+use pc_source::{OutOfMemory, Place};
 use pc_types::Parents;
+use std::alloc::Global;
 use std::marker::Model;
 
 /// A parameter of a function or method, or a field as a parameter of its class. Its name is in normal form NFKC.
@@ -133,6 +134,25 @@ impl<Ty: Drop> ClassTable<Ty> {
         )
     }
 
+    /// Returns the fields of a class, in order, with those of its ancestors first; none if there is no class with this
+    /// number. Library reference, `dataclasses`.
+    ///
+    /// # Errors
+    ///
+    /// `OutOfMemory` only if an allocation failed.
+    pub fn fields(&self, alloc: Global, class: usize) -> Result<Vec<&Parameter<Ty>>, OutOfMemory>
+        ensures fields { IfOk result (λ fs. map lent_parameter fs.items ≡ fields_in self.now class) }
+    {
+        let count = self.field_count(class);
+        let mut fields = Vec::with_capacity(alloc, count)?;
+        for place in 0..count {
+            if let Some(field) = self.field_at(class, place) {
+                fields.push(field)?;
+            }
+        }
+        Ok(fields)
+    }
+
     /// Returns the nearest method with a name, from the class through its ancestors, if there is one.
     pub fn method(&self, class: usize, name: &str) -> Option<&Method<Ty>>
         ensures value { (tree : Ty → Tree)
@@ -198,8 +218,8 @@ impl<Ty: Drop> ClassTable<Ty> {
     pub(crate) fn field_at(&self, class: usize, place: usize) -> Option<&Parameter<Ty>>
         ensures { option_map lent_parameter result ≡ slice_get (fields_in self.now class) place }
     {
-        match self.lists.lists.seat(self.lists.of(class), place) {
-            Some(seat) => self.parts.fields.get(seat.number),
+        match self.lists.lists.list_place(self.lists.of(class), place) {
+            Some(list_place) => self.parts.fields.get(list_place.number),
             None => None,
         }
     }

@@ -10,7 +10,7 @@ use Rattle.std.proofs.lemmas.Bool.{not-true}
 use Rattle.std.proofs.lemmas.Slice.Eq.{bytes_eq-Decides}
 use Rattle.clap.specs.Words.{Kinds, Text}
 use Rattle.clap.proofs.OnLiterals.{clap_on_literals}
-use Rattle.pc_commands.specs.CheckWords.{Reading, are_plain, asked, asked_by, asked_of, faults, format_word, is_choice}
+use Rattle.pc_commands.specs.CheckWords.{WordsReading, are_plain, asked, asked_by, asked_of, faults, format_word, is_choice}
 use Rattle.pc_commands.specs.CheckWords.{is_details_flag, is_file, is_flag, is_types_flag, plainly_asked, readings, argument_value}
 use Rattle.pc_commands.specs.Faults.{begins_with_dash, without_faults}
 use Rattle.pc_commands.proofs.SaidOfFaults.{long_none, not_dashes, short_none}
@@ -173,15 +173,15 @@ file_is w holds = not-true _ holds
 -- ---- the readings
 
 -- the request of the words is that of the reading, if the reading applies
-abbrev Says : List Text → Reading → Type 0
+abbrev Says : List Text → WordsReading → Type 0
 Says words r = r.holds ≡ true → asked words ≡ asked_by r
 
-abbrev AllSay : List Text → List Reading → Type 0
+abbrev AllSay : List Text → List WordsReading → Type 0
 AllSay words [] = Unit {0}
 AllSay words (r ∷ rest) = Says words r × AllSay words rest
 
 -- of readings that all say what is asked, the first that holds says it
-first_says : (words : List Text) (rs : List Reading) → AllSay words rs → list_any (λ r. r.holds) rs ≡ true
+first_says : (words : List Text) (rs : List WordsReading) → AllSay words rs → list_any (λ r. r.holds) rs ≡ true
     → asked words ≡ option_and_then asked_by (find (λ r. r.holds) rs)
 first_says words [] all e = absurd (true≢false (sym e))
 first_says words (r ∷ rest) all e =

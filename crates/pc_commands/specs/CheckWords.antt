@@ -120,7 +120,7 @@ is_file word = not (begins_with_dash word)
 
 -- a reading of words: whether it applies, whether `--json`, `--types` and `--details` are given, the word for the
 -- format, if there is one, and the file
-pub record Reading : Type 0 where
+pub record WordsReading : Type 0 where
   pub holds : Bool
   pub json : Bool
   pub types : Bool
@@ -129,7 +129,7 @@ pub record Reading : Type 0 where
   pub file : Text
 
 -- a reading without `--types` and `--details`
-abbrev pub report_reading : Bool → Bool → Option Text → Text → Reading
+abbrev pub report_reading : Bool → Bool → Option Text → Text → WordsReading
 report_reading holds json number file = record {
   holds = holds;
   json = json;
@@ -140,7 +140,7 @@ report_reading holds json number file = record {
 }
 
 -- a reading with `--types`, which goes with no format
-abbrev pub types_reading : Bool → Bool → Text → Reading
+abbrev pub types_reading : Bool → Bool → Text → WordsReading
 types_reading holds json file = record {
   holds = holds;
   json = json;
@@ -151,7 +151,7 @@ types_reading holds json file = record {
 }
 
 -- a reading with `--details`, which goes with no format
-abbrev pub details_reading : Bool → Bool → Text → Reading
+abbrev pub details_reading : Bool → Bool → Text → WordsReading
 details_reading holds json file = record {
   holds = holds;
   json = json;
@@ -163,7 +163,7 @@ details_reading holds json file = record {
 
 -- the readings of that many words: a file, with or without `--json`, and with `--types`, `--details`, `--format` and a
 -- number or none of these, in each order
-abbrev pub readings : List Text → List Reading
+abbrev pub readings : List Text → List WordsReading
 readings (first ∷ []) = report_reading (is_file first) false None first ∷ []
 readings (first ∷ second ∷ []) =
     report_reading (is_flag first && is_file second) true None second
@@ -204,7 +204,7 @@ abbrev pub are_plain : List Text → Bool
 are_plain words = list_any (λ r. r.holds) (readings words)
 
 -- the request of a reading
-abbrev pub asked_by : Reading → Option Asked
+abbrev pub asked_by : WordsReading → Option Asked
 asked_by r = asked_of r.json r.types r.details r.number r.file
 
 -- the request of plain words, defined without `clap`
@@ -216,6 +216,6 @@ abbrev pub asks_for_help : List Text → Bool
 asks_for_help words = list_any is_request (faults words)
 
 -- whether the words are mistaken: `clap` finds a mistake in them, or only the value of `--format` names no format, or two
--- of `--types`, `--details` and `--format` stand beside each other
+-- of `--types`, `--details` and `--format` are given together
 abbrev pub is_mistaken : List Text → Bool
 is_mistaken words = mistaken_by (faults words) (asked words)

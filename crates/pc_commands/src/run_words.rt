@@ -1,19 +1,23 @@
 //! The words of the command line of `pyrun`.
-ghost use Rattle.std.specs.Prelude.{◌≡◌, IfOk, IfErr, Some, None, true, codes, map, option_and_then, string_bytes};
+ghost use Rattle.std.specs.Prelude.{◌≡◌, IfOk, IfErr, Some, None, true, false, codes, map, option_and_then};
+ghost use Rattle.std.specs.Prelude.{string_bytes};
 ghost use Rattle.std.specs.Str.{all_ascii_digits};
-ghost use Rattle.clap.specs.Words.{app_of, first_value, found_of};
+ghost use Rattle.clap.specs.Words.{app_of, first_value, found_of, rule_of};
 ghost use Rattle.pc_commands.specs.Faults.{OnFault};
-ghost use Rattle.pc_commands.specs.RunWords.{are_plain, asked, asks_for_help, command_line, fuel_in, is_mistaken};
-ghost use Rattle.pc_commands.specs.RunWords.{plainly_asked};
+ghost use Rattle.pc_commands.specs.CheckWords.{file_rule};
+ghost use Rattle.pc_commands.specs.RunWords.{are_plain, asked, asks_for_help, choices_rule, command_line};
+ghost use Rattle.pc_commands.specs.RunWords.{fuel_in, fuel_rule, is_mistaken, plainly_asked};
 
 use crate::faults::{OptionFault, fault_of};
 use clap::{Arg, ArgAction, ArgMatches, Command};
 use std::alloc::{AllocError, Global};
 
-/// Request of a command line: the file to run, and the amount of fuel.
+/// Request of a command line: the file to run, the amount of fuel, and the word whose bytes are the choices, which is
+/// empty if there is none.
 #[derive(Debug, PartialEq, Eq, Drop)]
 pub struct RunOptions {
     pub fuel: u64,
+    pub choices: String,
     pub file: String,
 }
 
@@ -44,27 +48,56 @@ fn fuel_of(word: &str) -> Option<u64>
     }
 }
 
-/// Returns the command line of the program, for `clap`.
-fn command<'a>(alloc: Global) -> Result<Command<'a>, AllocError>
-    ensures { IfOk result (λ c. app_of c ≡ command_line) }
+/// Returns the option `--fuel N`.
+fn fuel_argument<'a>(alloc: Global) -> Arg<'a>
+    ensures rule { rule_of result ≡ fuel_rule }
+    ensures local { result.global ≡ false }
 {
-    let fuel = Arg::new(alloc, "fuel")
+    Arg::new(alloc, "fuel")
         .long("fuel")
         .value_name("N")
         .required(true)
         .action(ArgAction::Set)
-        .help("How many steps the run may take, from 0 to 18446744073709551615");
-    let file = Arg::new(alloc, "file")
+        .help("How many steps the run may take, from 0 to 18446744073709551615")
+}
+
+/// Returns the option `--choices WORD`.
+fn choices_argument<'a>(alloc: Global) -> Arg<'a>
+    ensures rule { rule_of result ≡ choices_rule }
+    ensures local { result.global ≡ false }
+{
+    Arg::new(alloc, "choices")
+        .long("choices")
+        .value_name("WORD")
+        .action(ArgAction::Set)
+        .help(
+            "Choice bytes for the free answers of the run, such as the digits 0 to 3 [default: none]",
+        )
+}
+
+/// Returns the argument that names the file.
+fn file_argument<'a>(alloc: Global) -> Arg<'a>
+    ensures rule { rule_of result ≡ file_rule }
+    ensures local { result.global ≡ false }
+{
+    Arg::new(alloc, "file")
         .value_name("FILE")
         .required(true)
         .action(ArgAction::Set)
-        .help("The module to run");
+        .help("The module to run")
+}
+
+/// Returns the command line of the program, for `clap`.
+fn command<'a>(alloc: Global) -> Result<Command<'a>, AllocError>
+    ensures { IfOk result (λ c. app_of c ≡ command_line) }
+{
     Command::new(alloc, "pyrun")
         .version("1.0.0")
         .about("Runs a module of the profile in the model, and prints its trace")
         .no_binary_name(true)
-        .arg(fuel)?
-        .arg(file)
+        .arg(fuel_argument(alloc))?
+        .arg(choices_argument(alloc))?
+        .arg(file_argument(alloc))
 }
 
 /// Message for a value of `--fuel` that is no number.
@@ -88,15 +121,17 @@ fn fuel_given(matches: &ArgMatches) -> Option<u64>
     fuel_of(matches.get_str("fuel")?)
 }
 
-/// Reads the words of the command line, which must be `--fuel N` and a file, as `clap` reads them, with N a whole
-/// number in decimal from 0 to 18446744073709551615. Own rule of the profile.
+/// Reads the words of the command line, which must be `--fuel N`, a file and optionally `--choices WORD`, as `clap` reads
+/// them, with N a whole number in decimal from 0 to 18446744073709551615. Without `--choices WORD` the word is empty. Own
+/// rule of the profile.
 ///
 /// # Errors
 ///
 /// `Usage` for any other words; `Help` if they ask for help or the version; `OutOfMemory` only if an allocation failed.
 pub fn run_options(alloc: Global, words: &[&str]) -> Result<RunOptions, OptionFault>
     ensures read { IfOk result
-        (λ o. asked (map (λ w. w.now) words.now) ≡ Some (record { fuel = o.fuel; file = string_bytes o.file })) }
+        (λ o. asked (map (λ w. w.now) words.now)
+        ≡ Some (record { fuel = o.fuel; choices = string_bytes o.choices; file = string_bytes o.file })) }
     ensures plain { are_plain (map (λ w. w.now) words.now) ≡ true
         → asked (map (λ w. w.now) words.now) ≡ plainly_asked (map (λ w. w.now) words.now) }
     ensures none { IfErr result
@@ -112,6 +147,11 @@ pub fn run_options(alloc: Global, words: &[&str]) -> Result<RunOptions, OptionFa
     let (Some(fuel), Some(file)) = (fuel_given(&matches), matches.get_str("file")) else {
         return Err(number_fault(alloc));
     };
+    let choices = String::from_str(alloc, matches.get_str("choices").unwrap_or(""))?;
     let file = String::from_str(alloc, file)?;
-    Ok(RunOptions { fuel, file })
+    Ok(RunOptions {
+        fuel,
+        choices,
+        file,
+    })
 }

@@ -4,14 +4,14 @@ use Rattle.std.proofs.Common.{arith}
 use Rattle.std.proofs.lemmas.List.Elements.{All-append, All-cons, All-nil}
 use Rattle.std.proofs.lemmas.Option.{slice_get-map}
 use Rattle.std.specs.Prelude.{All, IfSome, slice_get}
-use Rattle.std.specs.Option.{option_map}
-use Rattle.pc_tree.specs.Tree.{Module, param_of}
+use Rattle.std.specs.Option.{option_and_then, option_map}
+use Rattle.pc_tree.specs.Tree.{Ann, Module, Param, option_ann_of, param_of}
 use Rattle.pc_tree.specs.declared.tree.Param.{Param as RustParam}
 use Rattle.pc_types.specs.Boxed.{tree_of, IsGiven}
 use Rattle.pc_types.specs.Tree.{Tree, ListOf, DictOf}
 use Rattle.pc_types.specs.declared.boxed.BoxType.{BoxType}
 use Rattle.pc_types.specs.declared.boxed.BoxType.TheVariants as boxed
-use Rattle.pc_class.specs.Facts.{parameters_of, typed_parameter}
+use Rattle.pc_class.specs.Facts.{TypedParameter, parameters_of, typed_parameter}
 use Rattle.pc_class.specs.Tables.{ClassEntry, HasEntries, HasMethod, IsFieldIfAny, IsMethodIfAny}
 use Rattle.pc_class.specs.declared.table.Method.{Method as RustMethod}
 use Rattle.pc_class.specs.declared.table.Parameter.{Parameter as RustParameter}
@@ -20,6 +20,7 @@ use Rattle.pc_detail_texts.specs.Details.{called_value}
 use Rattle.pc_detail_facts.specs.declared.called.CallTarget.{CallTarget}
 use Rattle.pc_detail_facts.specs.Callees.{IsHeldCalled, default_in, name_of_parameter, type_of_parameter}
 use Rattle.pc_detail_rules.specs.Calls.{called_on, container_called, repeated, value_called}
+use Rattle.pc_detail_rules.specs.Written.{field_annotation, field_annotations, written_at}
 use Rattle.pc_detail_facts.specs.Held.{HasGivenType}
 use Rattle.pc_detail_facts.proofs.Held.{field_held, method_held}
 
@@ -66,7 +67,7 @@ held_more cs c h k = All-append IsHeldCalled cs (c ∷ []) h (All-cons IsHeldCal
 
 -- a value that is not of type Any is called
 pub value_kept : (t : BoxType) → (t ≡ boxed.Any → ⊥)
-    → value_called (tree_of t) ≡ record { what = called_value (tree_of t); signature = None } ∷ []
+    → value_called (tree_of t) ≡ record { what = called_value (tree_of t); signature = None; annotations = [] } ∷ []
 value_kept boxed.Any h = absurd (h refl)
 value_kept boxed.Object h = refl
 value_kept boxed.Never h = refl
@@ -116,3 +117,32 @@ pub typed_at : (m : Module) (ps : List RustParam) (k : ℕ)
     ≡ slice_get (parameters_of m (map param_of ps)) k
 typed_at m ps k = sym (slice_get-map (typed_parameter m) (map param_of ps) k
     ∙ ap (option_map (typed_parameter m)) (slice_get-map param_of ps k) ∙ typed_twice m (slice_get ps k))
+
+-- ---- the annotations of parameters
+
+-- what has no annotations
+pub none_written : (k : ℕ) → ◌≡◌ {A = Option Ann} None (written_at [] k)
+none_written zero = refl
+none_written (suc k) = refl
+
+-- the annotation of a parameter, if there is one
+abbrev pub param_written : Option RustParam → Option Ann
+param_written None = None
+param_written (Some p) = option_ann_of p.annotation
+
+-- the annotation of a parameter of a function
+pub written_param : (ps : List RustParam) (k : ℕ)
+    → param_written (slice_get ps k) ≡ written_at (map (λ (p : Param). p.annotation) (map param_of ps)) k
+written_param [] zero = refl
+written_param [] (suc k) = refl
+written_param (p ∷ ps) zero = refl
+written_param (p ∷ ps) (suc k) = written_param ps k
+
+-- the annotation of a field of a class, by its position
+pub written_field : (m : Module) (c : ℕ) (ps : List TypedParameter) (k : ℕ)
+    → option_and_then (λ (q : TypedParameter). field_annotation m c q.name) (slice_get ps k)
+    ≡ written_at (field_annotations m c ps) k
+written_field m c [] zero = refl
+written_field m c [] (suc k) = refl
+written_field m c (p ∷ ps) zero = refl
+written_field m c (p ∷ ps) (suc k) = written_field m c ps k

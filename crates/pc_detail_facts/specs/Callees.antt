@@ -1,4 +1,4 @@
--- What a call calls, as the program holds it: private to this crate. Own rule of the profile.
+-- The target of a call, as the program holds it: private to this crate. Own rule of the profile.
 use Rattle.std.specs.Prelude.{ℕ, List, [], Bool as Test, false, if◌then◌else◌, Option, Some, None, IfSome}
 use Rattle.std.specs.Prelude.{option_to_list}
 use Rattle.std.specs.Option.{option_map}
@@ -15,23 +15,25 @@ use Rattle.pc_detail_facts.specs.declared.facts.Facts.{Facts}
 use Rattle.pc_detail_rules.specs.Calls.{Called, builtin_called, class_called, container_called, function_called, repeated}
 use Rattle.pc_detail_facts.specs.Held.{IsGivenLent, function_lent, module_held, tree_lent}
 use Rattle.pc_detail_rules.specs.Operations.{method_name}
+use Rattle.pc_detail_rules.specs.Written.{method_annotations}
 
 -- the type of an argument of a built-in
 abbrev pub argument_type : (is_int : Test) → Tree
 argument_type is_int = if is_int then Int else Object
 
--- what is called, as the rules see it
+-- the target of a call, as the rules see it
 abbrev pub called_of : Facts → CallTarget → Called
 called_of f (called.Function def) = function_called (module_held f) (function_lent def)
 called_of f (called.Class c) = class_called (module_held f) c
 called_of f (called.Method x) = record {
   what = detail.called_function (method_name (module_held f) (method_with tree_of x.now));
   signature = Some (method_signature (method_with tree_of x.now));
+  annotations = method_annotations (module_held f) (method_with tree_of x.now);
 }
 called_of f (called.Builtin word count is_int) = builtin_called word.now (repeated count (argument_type is_int))
 called_of f (called.Member object word argument) =
     container_called (tree_lent object) word.now (option_to_list (option_map tree_lent argument))
-called_of f (called.Value t) = record { what = detail.called_value (tree_lent t); signature = None }
+called_of f (called.Value t) = record { what = detail.called_value (tree_lent t); signature = None; annotations = [] }
 
 -- the types of what is called are such as a store may give
 abbrev pub IsHeldCalled : CallTarget → Type 0

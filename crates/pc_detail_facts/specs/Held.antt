@@ -1,4 +1,4 @@
--- What details are made from, as the program holds it: the module, its classes, and what is known of it.
+-- The facts that details are made from, as the program holds them: the module, its classes, its types and flows.
 -- Own rule of the profile.
 use Rattle.std.specs.Prelude.{◌≡◌, List, map, Option, unwrap_or, All, IfSome}
 use Rattle.std.specs.Option.{option_map}
@@ -12,7 +12,7 @@ use Rattle.pc_tree.specs.declared.tree.ClassDef.{ClassDef as RustClass}
 use Rattle.pc_tree.specs.declared.tree.Constant.{Constant as RustConstant}
 use Rattle.pc_tree.specs.declared.tree.Stmt.{Stmt as RustStmt}
 use Rattle.pc_tree.specs.Tree.{Module, FuncDef, ClassDef, Constant, Stmt, func_of, class_of, constant_of, expr_of, stmt_of}
-use Rattle.pc_scope.specs.Bindings.{functions_in, classes_in, constants_in, Body}
+use Rattle.pc_scope.specs.Bindings.{functions_in, classes_in, constants_in, methods_in, Body}
 use Rattle.pc_types.specs.Tree.{Tree, Any}
 use Rattle.pc_types.specs.Boxed.{tree_of, IsGiven}
 use Rattle.pc_types.specs.declared.boxed.BoxType.{BoxType}
@@ -32,14 +32,17 @@ use Rattle.pc_detail_texts.specs.Mapped.{map_detail}
 use Rattle.pc_detail_texts.specs.Sentences.{Words}
 use Rattle.pc_detail_texts.specs.Shown.{detail_of_value}
 use Rattle.pc_detail_texts.specs.declared.details.Detail.{Detail as RustDetail}
-use Rattle.pc_detail_facts.specs.declared.facts.Body.{Body as RustBody}
-use Rattle.pc_detail_facts.specs.declared.facts.Definitions.{Definitions}
+use Rattle.pc_detail_facts.specs.declared.annotations.Annotations.{Annotations}
+use Rattle.pc_detail_facts.specs.declared.definitions.Body.{Body as RustBody}
+use Rattle.pc_detail_facts.specs.declared.definitions.Definitions.{Definitions}
+use Rattle.pc_detail_facts.specs.declared.definitions.OwnedExpr.{OwnedExpr as RustOwned}
 use Rattle.pc_detail_facts.specs.declared.facts.Facts.{Facts}
 use Rattle.pc_detail_facts.specs.declared.known.Known.{Known as RustKnown}
-use Rattle.pc_detail_facts.specs.declared.facts.OwnedExpr.{OwnedExpr as RustOwned}
+use Rattle.pc_detail_facts.specs.Annotated.{HoldsFields}
 use Rattle.pc_detail_rules.specs.Facts.{Known}
 use Rattle.pc_detail_rules.specs.Nodes.{OwnedExpr, owned}
 use Rattle.pc_detail_rules.specs.ToldTypes.{told_type}
+use Rattle.pc_detail_rules.specs.Written.{annotated_classes}
 
 -- ---- what is known
 
@@ -69,7 +72,7 @@ abbrev pub flow_held : RustKnown → Code → Place → Option (Tree × Tree)
 flow_held k E12 p = option_map pair_shown (get place_cmp k.wrong p)
 flow_held k c p = option_map pair_shown (get place_cmp k.dynamic p)
 
--- what is known, as it is held
+-- the types and flows of a module by place, as the program holds them
 abbrev pub known_of : RustKnown → Known
 known_of k = record { types = type_held k; flows = flow_held k }
 
@@ -80,8 +83,8 @@ pub record IsKnownHeld (k : RustKnown) : Type 0 where
   pub wrong : (p : Place) → IfSome (get place_cmp k.wrong p) AreGivenLent
   pub dynamic : (p : Place) → IfSome (get place_cmp k.dynamic p) AreGivenLent
 
--- what is held is what notes tell: the first type at each place, Any if there is none, and the first wrong and the first
--- dynamic flow
+-- the types and flows that are held are those of the notes: the first type at each place, Any if there is none, and the
+-- first wrong and the first dynamic flow
 pub record HoldsNotes (notes : List Note) (k : RustKnown) : Type 0 where
   pub types : (p : Place) → type_held k p ≡ unwrap_or (type_noted p notes) Any
   pub wrong : (p : Place) → flow_held k E12 p ≡ flow_noted E12 p notes
@@ -119,13 +122,19 @@ pub record HoldsDefinitions (m : Module) (d : Definitions) : Type 0 where
   pub functions : map function_lent d.functions.items ≡ functions_in m.items
   pub classes : map class_lent d.classes.items ≡ classes_in m.items
 
+-- the annotations are those of the fields of a module's classes, with those of their ancestors; and the methods are those
+-- of its classes
+pub record HoldsAnnotations (m : Module) (a : Annotations) : Type 0 where
+  pub fields : HoldsFields (annotated_classes m) a.fields
+  pub methods : map (λ v. map function_lent v.items) a.methods.items ≡ map (λ c. methods_in c.members) (classes_in m.items)
+
 -- ---- facts
 
 -- the module that details are of
 abbrev pub module_held : Facts → Module
 module_held f = module_in f.outline.now
 
--- what is known of it
+-- the types and flows of that module by place
 abbrev pub known_held : Facts → Known
 known_held f = known_of f.known.now
 
@@ -145,7 +154,7 @@ HasGivenType p = IfSome p (λ q. IsGiven q.now.ty)
 abbrev pub text_held : Facts → Tree → Words
 text_held f t = told_type (module_held f) t
 
--- what details are made from is that of one module
+-- the facts that details are made from are all of one module
 pub record AreFacts (f : Facts) : Type 0 where
   pub outline : IsModuleOutline f.outline.now
   pub classes : classes_with tree_of f.classes.now ≡ classes_of (module_held f)
@@ -153,6 +162,7 @@ pub record AreFacts (f : Facts) : Type 0 where
   pub given : HasEntries IsGiven f.classes.now
   pub fields : map listing_held f.fields.now ≡ map (λ c. c.fields) (classes_of (module_held f))
   pub listed : All AreListedGiven f.fields.now
+  pub annotations : HoldsAnnotations (module_held f) f.annotations.now
   pub definitions : HoldsDefinitions (module_held f) f.definitions.now
   pub known : IsKnownHeld f.known.now
 

@@ -1,2 +1,3 @@
+pub mod Annotated
 pub mod Callees
 pub mod Held

@@ -1,30 +1,33 @@
-//! What a call calls, and the parameters that it takes.
+//! The target of a call, and the parameters that it takes.
 
-ghost use Rattle.std.specs.Prelude.{◌≡◌, IfOk, IfSome, length, option_map};
+ghost use Rattle.std.specs.Prelude.{◌≡◌, IfOk, IfSome, Some, length, option_map};
 ghost use Rattle.std.specs.Prelude.{slice_get};
 ghost use Rattle.std.specs.Option.{option_copied};
 ghost use Rattle.pc_tree.specs.Tree.{Module as ModuleOf, func_of, param_of};
 ghost use Rattle.pc_types.specs.Boxed.{tree_of, IsGiven};
 ghost use Rattle.pc_class.specs.Facts.{parameters_of};
 ghost use Rattle.pc_class.specs.Facts.{typed_parameter};
-ghost use Rattle.pc_class.specs.Tables.{HasMethod, parameter_lent, parameters_with};
+ghost use Rattle.pc_class.specs.Tables.{HasMethod, method_with, parameter_lent, parameters_with};
 ghost use Rattle.pc_detail_texts.specs.Mapped.{map_callable};
 ghost use Rattle.pc_detail_texts.specs.Shown.{callable_of_value};
+ghost use Rattle.pc_detail_facts.specs.Annotated.{annotation_lent};
 ghost use Rattle.pc_detail_facts.specs.Callees.{IsHeldCalled, called_of, default_in, name_of_parameter, parameters_called};
 ghost use Rattle.pc_detail_facts.specs.Callees.{argument_type, takes_names_in, type_of_parameter};
 ghost use Rattle.pc_detail_facts.specs.declared.facts.Facts.{Facts as FactsOf};
+ghost use Rattle.pc_detail_rules.specs.Written.{annotations_of, method_annotations, written_at};
 ghost use Rattle.pc_detail_facts.specs.Held.{AreFacts, HasGivenType, module_held, text_held, tree_lent};
 
+use crate::annotations::option_ann;
 use crate::facts::Facts;
 use pc_annotations::read_option;
 use pc_class::{Method, Parameter};
 use pc_detail_texts::Callable;
 use pc_scope::Owner;
 use pc_source::OutOfMemory;
-use pc_tree::{FuncDef, Param};
+use pc_tree::{Ann, FuncDef, Param};
 use pc_types::{BoxStore, BoxType, TypeStore};
 
-/// What is called.
+/// The target of a call: a function, a class, a method, or a built-in.
 #[derive(Clone, Copy)]
 pub enum CallTarget<'c> {
     Function(&'c FuncDef),
@@ -152,6 +155,24 @@ impl<'c> CallTarget<'c> {
         }
     }
 
+    /// Returns the annotation of the parameter at a position, if it has one.
+    pub fn annotation_at(self, facts: &Facts<'c, '_>, position: usize) -> Option<&'c Ann>
+        requires { AreFacts facts.now }
+        ensures { option_map annotation_lent result ≡ written_at (called_of facts.now self.entry).annotations position }
+    {
+        match self {
+            CallTarget::Function(def) => parameter_annotation(def, position),
+            CallTarget::Class(class) => match facts.field_at(class, position) {
+                Some(field) => facts.field_annotation(class, field.name.as_str()),
+                None => None,
+            },
+            CallTarget::Method(method) => method_annotation(facts, method, position),
+            CallTarget::Builtin(_, _, _) => None,
+            CallTarget::Member(_, _, _) => None,
+            CallTarget::Value(_) => None,
+        }
+    }
+
     /// Returns what is called as it is shown.
     pub fn shown(self, facts: &Facts<'c, '_>) -> Result<Callable, OutOfMemory>
         requires facts { AreFacts facts.now }
@@ -183,6 +204,32 @@ fn function_parameter(def: &FuncDef, position: usize) -> Option<&Param>
 {
     match def.params.get(position) {
         Some(param) => Some(param),
+        None => None,
+    }
+}
+
+/// Returns the annotation of the parameter of a function at a position, if it has one.
+fn parameter_annotation(def: &FuncDef, position: usize) -> Option<&Ann>
+    ensures { option_map annotation_lent result ≡ written_at (annotations_of (Some (func_of def.now))) position }
+{
+    match def.params.get(position) {
+        Some(param) => option_ann(&param.annotation),
+        None => None,
+    }
+}
+
+/// Returns the annotation of the parameter of a method at a position, if it has one.
+fn method_annotation<'c>(
+    facts: &Facts<'c, '_>,
+    method: &Method<BoxType>,
+    position: usize,
+) -> Option<&'c Ann>
+    requires { AreFacts facts.now }
+    ensures { option_map annotation_lent result
+        ≡ written_at (method_annotations (module_held facts.now) (method_with tree_of method.now)) position }
+{
+    match facts.function_of(method) {
+        Some(def) => parameter_annotation(def, position),
         None => None,
     }
 }
@@ -230,7 +277,7 @@ fn function_type(
 {
     match function_parameter(def, position) {
         Some(param) => {
-            // The findings in the annotation are reported where it stands.
+            // The findings in the annotation are reported at its own place.
             let mut found = Vec::new(facts.alloc);
             let mut store = BoxStore::new();
             let ty = read_option(

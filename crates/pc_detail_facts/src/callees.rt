@@ -1,4 +1,4 @@
-//! What a callee calls, member by member.
+//! The targets of a call, one for each member of the callee's type.
 
 ghost use Rattle.std.specs.Prelude.{◌≡◌, ◌++◌, ◌∷◌, [], All, IfOk, OnOk, flat_map, map};
 ghost use Rattle.pc_tree.specs.Tree.{expr_of};
@@ -215,7 +215,7 @@ pub fn callees_of<'c>(
             add_named(facts, &mut called, given, ty, meaning)?;
             Ok(called)
         }
-        Expr::Attribute(_, object, name) => {
+        Expr::Attribute { object, name, .. } => {
             let ty = facts.type_at(object.place());
             add_called_on_each(facts, &mut called, ty, name.text.as_str())?;
             Ok(called)

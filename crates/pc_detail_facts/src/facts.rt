@@ -1,11 +1,14 @@
-//! What details are made from, and names and types as texts.
+//! The facts that details are made from, and names and types as texts.
 
-ghost use Rattle.std.specs.Prelude.{◌≡◌, ◌++◌, ◌∷◌, [], All, IfOk, IfSome, OnOk, length, map, option_map, slice_get};
+ghost use Rattle.std.specs.Prelude.{◌≡◌, ◌&&◌, All, IfOk, IfSome, length, map, option_map, slice_get};
 ghost use Rattle.pc_tree.specs.Depth.{place_of};
-ghost use Rattle.pc_tree.specs.Tree.{Module as ModuleOf, class_of, expr_of, item_of, module_of};
-ghost use Rattle.pc_scope.specs.Bindings.{class_bodies, classes_in, constants_in, function_bodies, functions_in};
-ghost use Rattle.pc_scope.specs.Bindings.{method_bodies, methods_in};
+ghost use Rattle.pc_tree.specs.Stopping.{has_none};
+ghost use Rattle.pc_tree.specs.Tree.{ann_of, expr_of};
+ghost use Rattle.pc_scope.specs.declared.resolution.Owner.TheVariants as owners;
+ghost use Rattle.pc_scope.specs.Bindings.{functions_in};
+ghost use Rattle.pc_scope.specs.Resolution.{function_of};
 ghost use Rattle.pc_types.specs.Boxed.{tree_of, IsGiven};
+ghost use Rattle.pc_types.specs.Join.{same_tree};
 ghost use Rattle.pc_types.specs.Shape.{members};
 ghost use Rattle.pc_annotations.specs.Text.{class_text};
 ghost use Rattle.pc_class.specs.Facts.{classes_of, class_facts_at, field_by_name, method_by_name};
@@ -14,133 +17,27 @@ ghost use Rattle.pc_detail_texts.specs.Mapped.{short_function};
 ghost use Rattle.pc_detail_texts.specs.Shortened.{shortened};
 ghost use Rattle.pc_detail_texts.specs.Shown.{all_words, function_of_value, words};
 ghost use Rattle.pc_detail_facts.specs.Held.{HoldsDefinitions, AreFacts, AreListedGiven, HasGivenType, IsGivenLent, body_of, module_held, text_held};
-ghost use Rattle.pc_detail_facts.specs.Held.{class_lent, constant_lent, function_lent, known_held, listing_held, trees_lent};
+ghost use Rattle.pc_detail_facts.specs.Held.{function_lent, known_held, listing_held, trees_lent};
+ghost use Rattle.pc_detail_facts.specs.Annotated.{annotation_lent};
 ghost use Rattle.pc_detail_rules.specs.Nodes.{function_name, name_with};
 ghost use Rattle.pc_detail_rules.specs.Operations.{has_member, method_name};
+ghost use Rattle.pc_detail_rules.specs.ToldTypes.{told_target};
+ghost use Rattle.pc_detail_rules.specs.Written.{ann_text, field_annotation, denotes};
 
+use crate::ann_texts::push_ann;
+use crate::annotations::Annotations;
+use crate::definitions::{Body, Definitions};
 use crate::known::Known;
 use crate::type_texts::push_type;
-use pc_annotations::ModuleOutline;
+use pc_annotations::{ModuleOutline, read_ann};
 use pc_class::{ClassTable, Listing, Method, Parameter};
 use pc_detail_texts::{FunctionName, ShortText, Unsupported, shortened};
 use pc_scope::Owner;
 use pc_source::{OutOfMemory, Place};
-use pc_tree::{ClassDef, Constant, Expr, FuncDef, Item, ItemKind, Member, Module};
-use pc_types::BoxType;
+use pc_tree::{Ann, Expr, Finding, FuncDef};
+use pc_types::{BoxStore, BoxType, is_same};
 use std::alloc::Global;
 use std::rc::RcStr;
-
-/// A function or a method, with the owner of its names.
-#[derive(Clone, Copy)]
-pub struct Body<'m> {
-    pub owner: Owner,
-    pub function: &'m FuncDef,
-}
-
-/// An expression, with the function or method that it stands in.
-#[derive(Clone, Copy)]
-pub struct OwnedExpr<'m> {
-    pub owner: Owner,
-    pub expr: &'m Expr,
-}
-
-/// The constants, the functions and the classes of a module, each in text order.
-#[derive(Drop)]
-pub struct Definitions<'m> {
-    pub constants: Vec<&'m Constant>,
-    pub functions: Vec<&'m FuncDef>,
-    pub classes: Vec<&'m ClassDef>,
-}
-
-impl<'m> Definitions<'m> {
-    /// Adds an item of the module.
-    fn add(&mut self, item: &'m Item) -> Result<(), OutOfMemory>
-        ensures constants { OnOk result (map constant_lent self.new.constants.items
-            ≡ map constant_lent self.old.constants.items ++ constants_in (item_of item.now ∷ [])) }
-        ensures functions { OnOk result (map function_lent self.new.functions.items
-            ≡ map function_lent self.old.functions.items ++ functions_in (item_of item.now ∷ [])) }
-        ensures classes { OnOk result (map class_lent self.new.classes.items
-            ≡ map class_lent self.old.classes.items ++ classes_in (item_of item.now ∷ [])) }
-    {
-        match &item.kind {
-            ItemKind::Constant(constant) => Ok(self.constants.push(constant)?),
-            ItemKind::Class(class) => Ok(self.classes.push(class)?),
-            ItemKind::Def(function) => Ok(self.functions.push(function)?),
-        }
-    }
-
-    /// Returns the definitions of a module.
-    pub fn of(alloc: Global, module: &'m Module) -> Result<Definitions<'m>, OutOfMemory>
-        ensures { IfOk result (HoldsDefinitions (module_of «module».now)) }
-    {
-        let mut definitions = Definitions {
-            constants: Vec::new(alloc),
-            functions: Vec::new(alloc),
-            classes: Vec::new(alloc),
-        };
-        for item in &module.items {
-            definitions.add(item)?;
-        }
-        Ok(definitions)
-    }
-
-    /// Returns the name of the class with this number, or an empty text if there is no such class.
-    pub(crate) fn class_name(&self, class: usize) -> &'m str
-        ensures { (m : ModuleOf) → HoldsDefinitions m self.now → result.now ≡ class_text m class }
-    {
-        match self.classes.get(class) {
-            Some(def) => def.name.text.as_str(),
-            None => "",
-        }
-    }
-
-    /// Returns the functions of the module, and then the methods of its classes.
-    pub fn bodies(&self, alloc: Global) -> Result<Vec<Body<'m>>, OutOfMemory>
-        ensures { IfOk result (λ v. map body_of v.items
-            ≡ function_bodies 0 (map function_lent self.now.functions.items)
-            ++ class_bodies 0 (map class_lent self.now.classes.items)) }
-    {
-        let mut bodies = Vec::new(alloc);
-        let mut number = 0;
-        for function in &self.functions {
-            let owner = Owner::Func(number);
-            bodies.push(Body {
-                owner,
-                function: *function,
-            })?;
-            number += 1;
-        }
-        let mut class = 0;
-        for def in &self.classes {
-            add_methods(&mut bodies, class, *def)?;
-            class += 1;
-        }
-        Ok(bodies)
-    }
-}
-
-/// Adds the methods of a class with this number.
-fn add_methods<'m>(
-    bodies: &mut Vec<Body<'m>>,
-    class: usize,
-    def: &'m ClassDef,
-) -> Result<(), OutOfMemory>
-    ensures { OnOk result (map body_of bodies.new.items
-        ≡ map body_of bodies.old.items ++ method_bodies class 0 (methods_in (class_of def.now).members)) }
-{
-    let mut number = 0;
-    for member in &def.members {
-        match member {
-            Member::Field(_) => {}
-            Member::Method(function) => {
-                let owner = Owner::Method(class, number);
-                bodies.push(Body { owner, function })?;
-                number += 1;
-            }
-        }
-    }
-    Ok(())
-}
 
 /// A module with its scopes and its classes, and what the notes of its check tell.
 #[derive(Drop)]
@@ -149,6 +46,7 @@ pub struct Facts<'m, 'n> {
     pub outline: &'m ModuleOutline<'m>,
     pub classes: &'m ClassTable<BoxType>,
     pub fields: &'m [Listing<'m, BoxType>],
+    pub annotations: &'m Annotations<'m>,
     pub definitions: &'m Definitions<'m>,
     pub known: &'m Known<'n>,
 }
@@ -169,6 +67,47 @@ impl<'m> Facts<'m, '_> {
         let mut text = ShortText::new();
         push_type(self.definitions, ty, &mut text);
         text.to_words(self.alloc)
+    }
+
+    /// Returns whether an annotation denotes a type: it has no findings, and it is read as that type.
+    fn denotes(&self, ann: &Ann, ty: &BoxType) -> Result<bool, OutOfMemory>
+        requires { AreFacts self.now }
+        ensures { IfOk result (λ b. b ≡ denotes (module_held self.now) (ann_of ann.now) (tree_of ty.now)) }
+    {
+        // The findings in the annotation are reported at its own place.
+        let mut found = Vec::new(self.alloc);
+        let mut store = BoxStore::new();
+        let read = read_ann(&mut store, self.alloc, self.outline, &mut found, ann)?;
+        Ok(is_read_as(&found, &read, ty))
+    }
+
+    /// Returns the text of an annotation, of at most 200 bytes.
+    fn ann_words(&self, ann: &Ann) -> Result<RcStr, OutOfMemory>
+        ensures { IfOk result (λ t. words t ≡ shortened (ann_text (ann_of ann.now))) }
+    {
+        let mut text = ShortText::new();
+        push_ann(ann, &mut text);
+        text.to_words(self.alloc)
+    }
+
+    /// Returns the text of the type of a target, of at most 200 bytes: that of its annotation, if it has one that
+    /// denotes the type.
+    pub fn target_words(&self, written: Option<&Ann>, ty: &BoxType) -> Result<RcStr, OutOfMemory>
+        requires { AreFacts self.now }
+        ensures { IfOk result (λ t. words t
+            ≡ told_target (module_held self.now) (option_map annotation_lent written.entry) (tree_of ty.now)) }
+    {
+        match written {
+            Some(ann) => {
+                let is_written = self.denotes(ann, ty)?;
+                if is_written {
+                    self.ann_words(ann)
+                } else {
+                    self.type_words(ty)
+                }
+            }
+            None => self.type_words(ty),
+        }
     }
 
     /// Returns the texts of types.
@@ -241,6 +180,23 @@ impl<'m> Facts<'m, '_> {
         ensures given { HasGivenType result }
     {
         self.classes.field(class, name)
+    }
+
+    /// Returns the annotation of a field with a name of the class with this number, if it has one.
+    pub fn field_annotation(&self, class: usize, name: &str) -> Option<&'m Ann>
+        requires { AreFacts self.now }
+        ensures { option_map annotation_lent result ≡ field_annotation (module_held self.now) class name.now }
+    {
+        self.annotations.field(class, name)
+    }
+
+    /// Returns the function of a method, if there is one.
+    pub(crate) fn function_of(&self, method: &Method<BoxType>) -> Option<&'m FuncDef>
+        requires { AreFacts self.now }
+        ensures { option_map function_lent result
+            ≡ function_of (module_held self.now) (owners.Method method.now.owner method.now.number) }
+    {
+        self.annotations.method(method.owner, method.number)
     }
 
     /// Returns the name of a function of this owner as it is shown; that of a method with its class.
@@ -318,6 +274,13 @@ impl<'m> Facts<'m, '_> {
     {
         self.function_words(body.owner, body.function.name.text.as_str())
     }
+}
+
+/// Returns whether nothing was found in an annotation, and it was read as a type.
+fn is_read_as(found: &[Finding], read: &BoxType, ty: &BoxType) -> bool
+    ensures { result ≡ has_none found.now && same_tree (tree_of read.now) (tree_of ty.now) }
+{
+    found.is_empty() && is_same(read, ty)
 }
 
 /// Returns the fields of each class.

@@ -1,4 +1,4 @@
-//! What the notes of a check tell, by place.
+//! The types and flows in the notes of a check, by place.
 
 ghost use Rattle.std.specs.Prelude.{◌≡◌, ◌||◌, IfOk, IfSome, option_map, is_some};
 ghost use Rattle.pc_tree.specs.declared.code.Code.TheVariants.{A1, E12};
@@ -13,8 +13,8 @@ use pc_types::BoxType;
 use std::alloc::Global;
 use std::collections::BTreeMap;
 
-/// What is known of a module beside its tree: the type at each place, and the two types of the first wrong and of the
-/// first dynamic flow there.
+/// The facts of a module that its tree does not show: the type at each place, and the two types of the first wrong and
+/// of the first dynamic flow there.
 #[derive(Drop)]
 pub struct Known<'n> {
     types: BTreeMap<Place, &'n BoxType>,
@@ -24,7 +24,7 @@ pub struct Known<'n> {
 }
 
 impl<'n> Known<'n> {
-    /// Returns what notes tell.
+    /// Returns the types and the first flows in notes, by place.
     pub fn of(alloc: Global, notes: &'n Notes) -> Result<Known<'n>, OutOfMemory>
         ensures told { IfOk result (HoldsNotes (notes_of notes.now)) }
         ensures held { IfOk result IsKnownHeld }

@@ -7,7 +7,7 @@ ghost use Rattle.pc_annotations.specs.Text.{type_text, parts_text, further_parts
 ghost use Rattle.pc_detail_texts.specs.Shortened.{KeepsText};
 ghost use Rattle.pc_detail_facts.specs.Held.{HoldsDefinitions};
 
-use crate::facts::Definitions;
+use crate::definitions::Definitions;
 use pc_detail_texts::ShortText;
 use pc_types::BoxType;
 

@@ -12,7 +12,7 @@ use Rattle.pc_scope.specs.Bindings.{Body}
 use Rattle.pc_notes.specs.Notes.{is_same_place}
 use Rattle.pc_notes.specs.Texts.{place_cmp}
 use Rattle.pc_notes.proofs.FirstFlows.{not_same, place_same, self_tested, some_mapped}
-use Rattle.pc_detail_facts.specs.declared.facts.Body.{Body as RustBody}
+use Rattle.pc_detail_facts.specs.declared.definitions.Body.{Body as RustBody}
 use Rattle.pc_detail_facts.specs.Held.{body_of}
 use Rattle.pc_detail_nodes.specs.NodesHeld.{body_among, body_at}
 use Rattle.pc_detail_nodes.proofs.WalkedLists.{shown_more}

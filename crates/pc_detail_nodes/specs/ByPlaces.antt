@@ -11,6 +11,6 @@ use Rattle.pc_detail_nodes.specs.declared.by_place.ByPlace.{ByPlace}
 abbrev pub nodes_at : {T : Type 0} → ByPlace T → Place → Option (List T)
 nodes_at b p = option_map (λ v. v.items) (get place_cmp b.lists p)
 
--- a node alone if it stands at a place, else none
+-- a node alone if it is at a place, else none
 abbrev pub alone_at : {T : Type 0} → Place → Place → T → List T
 alone_at p q x = if is_same_place p q then x ∷ [] else []

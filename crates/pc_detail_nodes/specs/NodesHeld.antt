@@ -18,7 +18,7 @@ use Rattle.pc_scope.specs.Expressions.{option_exprs, parts_in, target_exprs}
 use Rattle.pc_notes.specs.Notes.{is_same_place}
 use Rattle.pc_notes.specs.Texts.{place_cmp}
 use Rattle.pc_detail_nodes.specs.declared.nodes.Nodes.{Nodes}
-use Rattle.pc_detail_facts.specs.declared.facts.OwnedExpr.{OwnedExpr as RustOwned}
+use Rattle.pc_detail_facts.specs.declared.definitions.OwnedExpr.{OwnedExpr as RustOwned}
 use Rattle.pc_detail_nodes.specs.ByPlaces.{nodes_at}
 use Rattle.pc_detail_rules.specs.Explains.{is_callee_at}
 use Rattle.pc_detail_facts.specs.Held.{body_of, owned_of}

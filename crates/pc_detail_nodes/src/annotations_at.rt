@@ -43,7 +43,7 @@ fn add_of_stmt<'m>(anns: &mut Vec<&'m Ann>, statement: &'m Stmt) -> Result<(), O
         ≡ map ann_lent anns.old.items ++ ann_of_stmt (stmt_of statement.now)) }
 {
     match &statement.kind {
-        StmtKind::Annotated(_, annotation, _) => Ok(anns.push(annotation)?),
+        StmtKind::Annotated { annotation, .. } => Ok(anns.push(annotation)?),
         _ => Ok(()),
     }
 }
@@ -130,7 +130,10 @@ fn add_parts<'m>(anns: &mut Vec<&'m Ann>, annotation: &'m Ann) -> Result<(), Out
     anns.push(annotation)?;
     match annotation {
         Ann::Name(_) | Ann::NoneValue(_) | Ann::ApplyEmpty(_, _) => Ok(()),
-        Ann::Apply(_, _, parts) => add_each(anns, parts),
+        Ann::Apply {
+            arguments: parts,
+            ..
+        } => add_each(anns, parts),
         Ann::Union(_, parts) => add_each(anns, parts),
     }
 }

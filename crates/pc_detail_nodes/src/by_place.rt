@@ -1,4 +1,4 @@
-//! Lists of nodes by the places at which they stand.
+//! Lists of nodes by their places.
 
 ghost use Rattle.std.specs.Prelude.{◌≡◌, ◌++◌, [], Contains, IfOk, OnOk, Some, unwrap_or};
 ghost use Rattle.std.specs.Option.{option_map};
@@ -39,7 +39,7 @@ impl<T: Drop> ByPlace<T> {
         }
     }
 
-    /// Adds a node, if a finding stands at its place.
+    /// Adds a node, if there is a finding at its place.
     pub(crate) fn add(&mut self, place: Place, node: T) -> Result<(), OutOfMemory>
         ensures { OnOk result ((p : PlaceOf) → nodes_at self.new p
             ≡ option_map (λ nodes. nodes ++ alone_at p place node) (nodes_at self.old p)) }

@@ -25,8 +25,12 @@ fn add_target<'m>(exprs: &mut Vec<&'m Expr>, target: &'m Target) -> Result<(), O
 {
     match target {
         Target::Name(_) => Ok(()),
-        Target::Attribute(_, object, _) => Ok(exprs.push(object)?),
-        Target::Index(_, object, index) => {
+        Target::Attribute { object, .. } => Ok(exprs.push(object)?),
+        Target::Index {
+            object,
+            key: index,
+            ..
+        } => {
             exprs.push(object)?;
             Ok(exprs.push(index)?)
         }
@@ -55,7 +59,7 @@ fn add_own<'m>(exprs: &mut Vec<&'m Expr>, kind: &'m StmtKind) -> Result<(), OutO
     match kind {
         StmtKind::Pass | StmtKind::Break | StmtKind::Continue | StmtKind::If(_, _) => Ok(()),
         StmtKind::Return(value) => add_option(exprs, value),
-        StmtKind::Annotated(_, _, value) => add_option(exprs, value),
+        StmtKind::Annotated { value, .. } => add_option(exprs, value),
         StmtKind::Assert(condition, message) => {
             exprs.push(condition)?;
             add_option(exprs, message)
@@ -66,7 +70,7 @@ fn add_own<'m>(exprs: &mut Vec<&'m Expr>, kind: &'m StmtKind) -> Result<(), OutO
         }
         StmtKind::Expr(value) => Ok(exprs.push(value)?),
         StmtKind::While(condition, _) => Ok(exprs.push(condition)?),
-        StmtKind::For(_, iterable, _) => Ok(exprs.push(iterable)?),
+        StmtKind::For { iterable, .. } => Ok(exprs.push(iterable)?),
     }
 }
 

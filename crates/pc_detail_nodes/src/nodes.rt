@@ -34,7 +34,7 @@ fn target_place(target: &Target) -> Place
 {
     match target {
         Target::Name(name) => name.place,
-        Target::Attribute(place, _, _) | Target::Index(place, _, _) => *place,
+        Target::Attribute { place, .. } | Target::Index { place, .. } => *place,
     }
 }
 
@@ -94,7 +94,7 @@ fn add_callee(callees: &mut BTreeMap<Place, ()>, expr: &Expr) -> Result<(), OutO
     ensures { OnOk result ((p : PlaceOf) → is_some (get place_cmp callees.new p)
         ≡ is_some (get place_cmp callees.old p) || calls_at p (expr_of expr.now)) }
 {
-    if let Expr::Call(_, callee, _, _) = expr {
+    if let Expr::Call { callee, .. } = expr {
         callees.insert(callee.place(), ())?;
     }
     Ok(())
@@ -142,7 +142,7 @@ fn functions_by_place<'m>(
     Ok(functions)
 }
 
-/// The nodes of a module that stand at places of findings.
+/// The nodes of a module that are at places of findings.
 #[derive(Drop)]
 pub struct Nodes<'m> {
     exprs: ByPlace<OwnedExpr<'m>>,

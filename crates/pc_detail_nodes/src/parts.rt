@@ -36,20 +36,31 @@ fn add_inside<'m>(parts: &mut Vec<&'m Expr>, expr: &'m Expr) -> Result<(), OutOf
         Expr::Not(_, operand) => add_parts(parts, operand),
         Expr::IsNone(_, operand) => add_parts(parts, operand),
         Expr::IsNotNone(_, operand) => add_parts(parts, operand),
-        Expr::Attribute(_, object, _) => add_parts(parts, object),
-        Expr::Binary(_, _, left, right) => {
+        Expr::Attribute { object, .. } => add_parts(parts, object),
+        Expr::Binary { left, right, .. } => {
             add_parts(parts, left)?;
             add_parts(parts, right)
         }
-        Expr::Compare(_, _, left, right) => {
+        Expr::Compare { left, right, .. } => {
             add_parts(parts, left)?;
             add_parts(parts, right)
         }
-        Expr::And(_, left, right) | Expr::Or(_, left, right) | Expr::Index(_, left, right) => {
+        Expr::And { left, right, .. }
+        | Expr::Or { left, right, .. }
+        | Expr::Index {
+            object: left,
+            key: right,
+            ..
+        } => {
             add_parts(parts, left)?;
             add_parts(parts, right)
         }
-        Expr::Call(_, callee, arguments, keywords) => {
+        Expr::Call {
+            callee,
+            arguments,
+            keywords,
+            ..
+        } => {
             add_parts(parts, callee)?;
             add_each(parts, arguments)?;
             add_values(parts, keywords)

@@ -4,7 +4,7 @@ use Rattle.std.specs.Prelude.{not, if◌then◌else◌, Option, Some, None, is_s
 use Rattle.std.specs.Prelude.{option_to_list}
 use Rattle.std.specs.Option.{option_map}
 use Rattle.pc_tree.specs.declared.code.Code.TheVariants.{E14, E15}
-use Rattle.pc_tree.specs.Tree.{Module}
+use Rattle.pc_tree.specs.Tree.{Ann, Module}
 use Rattle.pc_types.specs.Tree.{Tree, Any, Object, Never, Int, Bool, Str, NoneType, Class, ListOf, DictOf, TupleOf}
 use Rattle.pc_types.specs.Tree.{Union}
 use Rattle.pc_types.specs.Below.{Bases}
@@ -22,6 +22,7 @@ use Rattle.pc_detail_rules.specs.Operations.{method_name}
 use Rattle.pc_detail_rules.specs.Calls.{Called, misfit, misfits_of, first_detail, value_called, member_called, list_called}
 use Rattle.pc_detail_rules.specs.Calls.{dict_called, container_called}
 use Rattle.pc_detail_rules.specs.CallLaws.{MethodMisfitsAreExact, ValueMisfitsAreExact}
+use Rattle.pc_detail_rules.specs.Written.{method_annotations}
 use Rattle.pc_detail_rules.proofs.Misfits.{misfits_exact}
 
 -- offers have E14 at the call
@@ -44,9 +45,10 @@ offer_step suited None t signatures what h = rw h refl
 offer_step suited (Some x) t signatures what h = rw h refl
 
 -- a call of one signature, where another has the same parameters
-pub one_exact : (g : GivenArguments) (s t : Signature) (what : Callable Tree) → is_suited g s ≡ is_suited g t
-    → is_wrong (signature_offer g s ∷ []) ≡ have_misfit g (record { what = what; signature = Some t } ∷ [])
-one_exact g s t what same = offer_step (is_suited g s) (misfit g t) s.returns (s ∷ []) what (same ∙ misfits_exact g t)
+pub one_exact : (g : GivenArguments) (s t : Signature) (what : Callable Tree) (annotations : List (Option Ann))
+    → is_suited g s ≡ is_suited g t → is_wrong (signature_offer g s ∷ [])
+    ≡ have_misfit g (record { what = what; signature = Some t; annotations = annotations } ∷ [])
+one_exact g s t what annotations same = offer_step (is_suited g s) (misfit g t) s.returns (s ∷ []) what (same ∙ misfits_exact g t)
 
 -- ---- values
 
@@ -74,7 +76,8 @@ value_exact g t = values_exact g (members t)
 member_exact : (m : Module) (g : GivenArguments) (f : Option Method) (p : Option TypedParameter)
     → is_wrong (class_offers g f p) ≡ have_misfit g (member_called m f p)
 member_exact m g (Some f) p =
-    one_exact g (method_signature f) (method_signature f) (called_function (method_name m f)) refl
+    one_exact g (method_signature f) (method_signature f) (called_function (method_name m f))
+    (method_annotations m f) refl
 member_exact m g None (Some p) = values_exact g (members p.type)
 member_exact m g None None = refl
 
@@ -99,8 +102,8 @@ list_exact g word t =
     two_step g (bytes_eq word (codes "append")) (bytes_eq word (codes "pop")) (signature_offer g appended ∷ [])
     (signature_offer g popped ∷ []) (container_called (ListOf t) word (t ∷ []) ∷ [])
     (container_called (ListOf t) word [] ∷ [])
-    (one_exact g appended (builtin_signature (t ∷ []) Any) (called_member (ListOf t) word) refl)
-    (one_exact g popped (builtin_signature [] Any) (called_member (ListOf t) word) refl)
+    (one_exact g appended (builtin_signature (t ∷ []) Any) (called_member (ListOf t) word) [] refl)
+    (one_exact g popped (builtin_signature [] Any) (called_member (ListOf t) word) [] refl)
 
 dict_exact : (bases : Bases) (g : GivenArguments) (word : List ℕ) (k v : Tree)
     → is_wrong (dict_offers bases g word k v) ≡ have_misfit g (dict_called k v word)
@@ -108,7 +111,7 @@ dict_exact bases g word k v =
     let got = builtin_signature (k ∷ []) (join_or_object bases v NoneType) in
     one_step g (bytes_eq word (codes "get")) (signature_offer g got ∷ [])
     (container_called (DictOf k v) word (k ∷ []) ∷ [])
-    (one_exact g got (builtin_signature (k ∷ []) Any) (called_member (DictOf k v) word) refl)
+    (one_exact g got (builtin_signature (k ∷ []) Any) (called_member (DictOf k v) word) [] refl)
 
 pub method_exact : MethodMisfitsAreExact
 method_exact m g word Any = refl

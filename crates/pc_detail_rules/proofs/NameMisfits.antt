@@ -11,7 +11,7 @@ use Rattle.pc_tree.specs.Stopping.{has_none}
 use Rattle.pc_tree.specs.Tree.{FuncDef, Module}
 use Rattle.pc_scope.specs.declared.resolution.Builtin.{Builtin}
 use Rattle.pc_scope.specs.declared.resolution.Builtin.TheVariants as builtin
-use Rattle.pc_scope.specs.declared.resolution.NameMeaning.TheVariants as res
+use Rattle.pc_scope.specs.declared.resolution.NameMeaning.TheVariants as meaning
 use Rattle.pc_scope.specs.Bindings.{functions_in}
 use Rattle.pc_types.specs.Tree.{Tree, Any, Object, Int, Str, NoneType}
 use Rattle.pc_types.specs.Shape.{members}
@@ -25,6 +25,7 @@ use Rattle.pc_rules.specs.Signatures.{signature_of, signatures_of, body_context}
 use Rattle.pc_detail_texts.specs.Details.{Callable, called_function, called_class, called_builtin, Misfit, call}
 use Rattle.pc_detail_rules.specs.Calls.{misfit, first_detail, function_callees, builtin_callees, repeated}
 use Rattle.pc_detail_rules.specs.CallLaws.{NameMisfitsAreExact}
+use Rattle.pc_detail_rules.specs.Written.{annotations_of, field_annotations}
 use Rattle.pc_detail_rules.proofs.Misfits.{misfits_exact}
 use Rattle.pc_detail_rules.proofs.CallMisfits.{is_wrong, have_misfit, offer_step, one_exact, values_exact}
 
@@ -143,19 +144,20 @@ function_exact : (m : Module) (g : GivenArguments) (o : Option FuncDef)
     → is_wrong (function_offer g (option_map (signature_of m) o) ∷ []) ≡ have_misfit g (function_callees m o)
 function_exact m g None = refl
 function_exact m g (Some f) = one_exact g (signature_of m f) (signature_of m f)
-    (called_function (record { class = None; name = f.name.text })) refl
+    (called_function (record { class = None; name = f.name.text })) (annotations_of (Some f)) refl
 
 pub name_exact : NameMisfitsAreExact
 unfolding signatures_of
-name_exact m constants names env g (res.Func i) h =
+name_exact m constants names env g (meaning.Func i) h =
     ap (λ o. is_wrong (function_offer g o ∷ [])) (slice_get-map (signature_of m) (functions_in m.items) i)
     ∙ function_exact m g (slice_get (functions_in m.items) i)
-name_exact m constants names env g (res.Class c) h =
-    let s = class_signature (classes_of m) c in rw h (one_exact g s s (called_class (class_text m c)) refl)
-name_exact m constants names env g (res.Builtin b) h = builtin_exact g b
-name_exact m constants names env g (res.Local x) h =
-    values_exact g (members (name_label (body_context m constants names) env (res.Local x)).type)
-name_exact m constants names env g (res.Const i) h =
-    values_exact g (members (name_label (body_context m constants names) env (res.Const i)).type)
-name_exact m constants names env g res.None h =
-    values_exact g (members (name_label (body_context m constants names) env res.None).type)
+name_exact m constants names env g (meaning.Class c) h =
+    let s = class_signature (classes_of m) c in rw h (one_exact g s s (called_class (class_text m c))
+    (field_annotations m c s.parameters) refl)
+name_exact m constants names env g (meaning.Builtin b) h = builtin_exact g b
+name_exact m constants names env g (meaning.Local x) h =
+    values_exact g (members (name_label (body_context m constants names) env (meaning.Local x)).type)
+name_exact m constants names env g (meaning.Const i) h =
+    values_exact g (members (name_label (body_context m constants names) env (meaning.Const i)).type)
+name_exact m constants names env g meaning.None h =
+    values_exact g (members (name_label (body_context m constants names) env meaning.None).type)

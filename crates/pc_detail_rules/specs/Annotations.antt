@@ -11,7 +11,7 @@ use Rattle.pc_tree.specs.Tree.{Name, Ann, Anns, named, applied, applied_empty, u
 use Rattle.pc_scope.specs.declared.resolution.Builtin.{Builtin}
 use Rattle.pc_scope.specs.declared.resolution.Builtin.TheVariants as builtin
 use Rattle.pc_scope.specs.declared.resolution.NameMeaning.{NameMeaning}
-use Rattle.pc_scope.specs.declared.resolution.NameMeaning.TheVariants as res
+use Rattle.pc_scope.specs.declared.resolution.NameMeaning.TheVariants as meaning
 use Rattle.pc_scope.specs.Bindings.{constants_in, functions_in}
 use Rattle.pc_scope.specs.Resolution.{resolve_in_module}
 use Rattle.pc_types.specs.Tree.{Tree}
@@ -104,11 +104,11 @@ fault_of_builtin word b = detail.reserved_no_type word
 
 -- the reason why a name of this meaning alone is not a type
 abbrev pub fault_of_name : Module → (name : List ℕ) → NameMeaning → AnnotationFault Tree
-fault_of_name m word (res.Const i) =
+fault_of_name m word (meaning.Const i) =
     no_class word (option_map (λ c. c.name) (slice_get (constants_in m.items) i))
-fault_of_name m word (res.Func i) =
+fault_of_name m word (meaning.Func i) =
     no_class word (option_map (λ f. f.name) (slice_get (functions_in m.items) i))
-fault_of_name m word (res.Builtin b) = fault_of_builtin word b
+fault_of_name m word (meaning.Builtin b) = fault_of_builtin word b
 fault_of_name m word r = detail.unknown_type word
 
 -- the reason why a container does not take these types: their number, or a key that is neither int nor str
@@ -120,8 +120,8 @@ fault_of_applied word b ts = detail.takes_none word
 
 -- the reason why a name of this meaning does not take these types: it is not a type itself, or takes none
 abbrev pub fault_of_types : Module → (name : List ℕ) → NameMeaning → List Tree → AnnotationFault Tree
-fault_of_types m word (res.Builtin b) ts = fault_of_applied word b ts
-fault_of_types m word (res.Class c) ts = detail.takes_none word
+fault_of_types m word (meaning.Builtin b) ts = fault_of_applied word b ts
+fault_of_types m word (meaning.Class c) ts = detail.takes_none word
 fault_of_types m word r ts = fault_of_name m word r
 
 -- a fault of an annotation, if a detail writes out its type

@@ -3,7 +3,7 @@ use Rattle.std.specs.Prelude.{◌≡◌, ℕ, List, [], flat_map, length, Bool a
 use Rattle.pc_tree.specs.declared.code.Code.TheVariants.{E14}
 use Rattle.pc_tree.specs.Tree.{Module}
 use Rattle.pc_scope.specs.declared.resolution.NameMeaning.{NameMeaning}
-use Rattle.pc_scope.specs.declared.resolution.NameMeaning.TheVariants as res
+use Rattle.pc_scope.specs.declared.resolution.NameMeaning.TheVariants as meaning
 use Rattle.pc_scope.specs.Bindings.{classes_in}
 use Rattle.pc_types.specs.Tree.{Tree}
 use Rattle.pc_types.specs.Shape.{members}
@@ -28,7 +28,7 @@ ValueMisfitsAreExact = (g : GivenArguments) (t : Tree)
 
 -- a class that a name means is one of the module's
 abbrev pub is_known_class : Module → NameMeaning → Test
-is_known_class m (res.Class c) = nat_lt c (length (classes_in m.items))
+is_known_class m (meaning.Class c) = nat_lt c (length (classes_in m.items))
 is_known_class m r = true
 
 -- the law that a call of a name in a body has E14 at the call exactly if there is a misfit

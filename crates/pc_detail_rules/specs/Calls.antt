@@ -5,12 +5,12 @@ use Rattle.std.specs.Prelude.{is_some, slice_get, codes, bytes_eq, option_to_lis
 use Rattle.std.specs.Option.{option_map}
 use Rattle.pc_tree.specs.declared.code.Code.TheVariants.{E27}
 use Rattle.pc_tree.specs.Stopping.{has_none}
-use Rattle.pc_tree.specs.Tree.{Expr, Exprs, name, attribute, call, no_exprs, more_exprs, FuncDef, Module}
+use Rattle.pc_tree.specs.Tree.{Ann, Expr, Exprs, name, attribute, call, no_exprs, more_exprs, FuncDef, Module}
 use Rattle.pc_tree.specs.Depth.{place_of}
 use Rattle.pc_scope.specs.declared.resolution.Builtin.{Builtin}
 use Rattle.pc_scope.specs.declared.resolution.Builtin.TheVariants as builtin
 use Rattle.pc_scope.specs.declared.resolution.NameMeaning.{NameMeaning}
-use Rattle.pc_scope.specs.declared.resolution.NameMeaning.TheVariants as res
+use Rattle.pc_scope.specs.declared.resolution.NameMeaning.TheVariants as meaning
 use Rattle.pc_scope.specs.Bindings.{functions_in}
 use Rattle.pc_scope.specs.Resolution.{is_one_of}
 use Rattle.pc_types.specs.Tree.{Tree, Any, Object, Int, Class, ListOf, DictOf}
@@ -26,6 +26,7 @@ use Rattle.pc_detail_texts.specs.Details as detail
 use Rattle.pc_detail_texts.specs.Details.{Detail, Callable, Misfit}
 use Rattle.pc_detail_rules.specs.Facts.{Known}
 use Rattle.pc_detail_rules.specs.Operations.{lacking, method_name}
+use Rattle.pc_detail_rules.specs.Written.{annotations_of, field_annotations, method_annotations}
 
 -- ---- misfits
 
@@ -72,10 +73,11 @@ MisfitsAreExact = (g : GivenArguments) (s : Signature) → is_suited g s ≡ not
 
 -- ---- who is called
 
--- a callee and its signature, none for a value, which cannot be called
+-- a callee, its signature, none for a value, which cannot be called, and the annotations of its parameters
 pub record Called : Type 0 where
   pub what : Callable Tree
   pub signature : Option Signature
+  pub annotations : List (Option Ann)
 
 -- the misfit of arguments with a signature; a value cannot be called
 abbrev pub misfit_of_option : GivenArguments → Option Signature → Option Misfit
@@ -89,13 +91,14 @@ called_misfit g c = misfit_of_option g c.signature
 -- a value of this type, called; none of type Any, which is no error
 abbrev pub value_called : Tree → List Called
 value_called Any = []
-value_called t = record { what = detail.called_value t; signature = None } ∷ []
+value_called t = record { what = detail.called_value t; signature = None; annotations = [] } ∷ []
 
 -- a function of the module, called
 abbrev pub function_called : Module → FuncDef → Called
 function_called m f = record {
   what = detail.called_function (record { class = None; name = f.name.text });
   signature = Some (signature_of m f);
+  annotations = annotations_of (Some f);
 }
 
 -- a class, called: it takes its fields
@@ -103,6 +106,7 @@ abbrev pub class_called : Module → ℕ → Called
 class_called m c = record {
   what = detail.called_class (class_text m c);
   signature = Some (class_signature (classes_of m) c);
+  annotations = field_annotations m c (class_signature (classes_of m) c).parameters;
 }
 
 -- a built-in, called with these types by position
@@ -110,6 +114,7 @@ abbrev pub builtin_called : (name : List ℕ) → List Tree → Called
 builtin_called word types = record {
   what = detail.called_builtin word;
   signature = Some (builtin_signature types Any);
+  annotations = [];
 }
 
 -- the method of this name of an instance, or else its field, whose value is called
@@ -117,6 +122,7 @@ abbrev pub member_called : Module → Option Method → Option TypedParameter �
 member_called m (Some f) field = record {
   what = detail.called_function (method_name m f);
   signature = Some (method_signature f);
+  annotations = method_annotations m f;
 } ∷ []
 member_called m None (Some p) = flat_map value_called (members p.type)
 member_called m None None = []
@@ -126,6 +132,7 @@ abbrev pub container_called : Tree → (name : List ℕ) → List Tree → Calle
 container_called t word types = record {
   what = detail.called_member t word;
   signature = Some (builtin_signature types Any);
+  annotations = [];
 }
 
 -- the method of a list, called
@@ -153,7 +160,7 @@ repeated (suc n) t = t ∷ repeated n t
 
 -- whether a name means `len`
 abbrev pub is_length : NameMeaning → Test
-is_length (res.Builtin builtin.Len) = true
+is_length (meaning.Builtin builtin.Len) = true
 is_length r = false
 
 -- the built-ins, called: `print` takes any number of arguments, so here as many as it is given
@@ -172,9 +179,9 @@ function_callees m (Some f) = function_called m f ∷ []
 
 -- the callees of a name: a function, a class, a built-in, or each member of a value's type
 abbrev pub named_callees : Module → (given : ℕ) → Tree → NameMeaning → List Called
-named_callees m given t (res.Func i) = function_callees m (slice_get (functions_in m.items) i)
-named_callees m given t (res.Class c) = class_called m c ∷ []
-named_callees m given t (res.Builtin b) = builtin_callees given b
+named_callees m given t (meaning.Func i) = function_callees m (slice_get (functions_in m.items) i)
+named_callees m given t (meaning.Class c) = class_called m c ∷ []
+named_callees m given t (meaning.Builtin b) = builtin_callees given b
 named_callees m given t r = flat_map value_called (members t)
 
 -- the detail of a callee with its misfit, none if there is no misfit

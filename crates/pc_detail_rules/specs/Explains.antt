@@ -1,5 +1,5 @@
 -- The detail of a finding, for each code. Own rule of the profile.
-use Rattle.std.specs.Prelude.{◌≡◌, ℕ, List, if◌then◌else◌, Bool as Test, false, Option, Some, codes}
+use Rattle.std.specs.Prelude.{◌≡◌, ℕ, List, if◌then◌else◌, Bool as Test, false, Option, Some, None, codes}
 use Rattle.std.specs.List.{list_any}
 use Rattle.std.specs.Option.{option_map, option_and_then}
 use Rattle.pc_source.specs.declared.place.Place.{Place}
@@ -12,18 +12,19 @@ use Rattle.pc_tree.specs.declared.code.Finding.{Finding}
 use Rattle.pc_tree.specs.Tree.{Expr, call, Ann, Target, Module}
 use Rattle.pc_tree.specs.Depth.{place_of}
 use Rattle.pc_scope.specs.declared.resolution.NameMeaning.{NameMeaning}
-use Rattle.pc_scope.specs.Expressions.{is_named}
 use Rattle.pc_scope.specs.Resolution.{resolve}
 use Rattle.pc_types.specs.Tree.{Tree}
 use Rattle.pc_notes.specs.Notes.{is_same_place}
 use Rattle.pc_module_rules.specs.Modules.{Labelling, IsLawful}
+use Rattle.pc_module_rules.specs.TypesOfStatements.{is_range_call}
 use Rattle.pc_detail_texts.specs.Details.{Detail}
+use Rattle.pc_detail_texts.specs.Sentences.{Words}
 use Rattle.pc_detail_rules.specs.Facts.{Known, known_under}
 use Rattle.pc_detail_rules.specs.Nodes.{OwnedExpr, exprs_of_module, exprs_at, targets_at, anns_at, body_named_at}
 use Rattle.pc_detail_rules.specs.Operations.{operator_detail, index_detail, store_detail, iterate_detail, attribute_here}
 use Rattle.pc_detail_rules.specs.Operations.{attribute_target, method_target, value_detail, display_size, keys_detail}
 use Rattle.pc_detail_rules.specs.Calls.{call_detail, builtin_detail, any_call_detail, range_misfit}
-use Rattle.pc_detail_rules.specs.Sinks.{flow_detail}
+use Rattle.pc_detail_rules.specs.Sinks.{flow_annotation, flow_detail}
 use Rattle.pc_detail_rules.specs.Annotations.{union_detail, annotation_size, annotation_detail}
 use Rattle.pc_detail_rules.specs.Overrides.{detail_or, override_detail}
 use Rattle.pc_detail_rules.specs.Names.{first_of_all}
@@ -32,6 +33,7 @@ use Rattle.pc_detail_rules.specs.Names.{twice_member_detail, base_detail, field_
 use Rattle.pc_detail_rules.specs.Names.{main_detail, reserved_detail, default_order_detail}
 use Rattle.pc_detail_rules.specs.Statements.{outside_loop_detail, unreachable_detail, no_return_detail, no_test_detail}
 use Rattle.pc_detail_rules.specs.Statements.{list_test_detail}
+use Rattle.pc_detail_rules.specs.ToldTypes.{told_detail}
 
 -- whether an expression is a call of the callee at this place
 abbrev pub calls_at : Place → Expr → Test
@@ -41,11 +43,6 @@ calls_at p e = false
 -- whether the expression at a place is a callee
 abbrev pub is_callee_at : Module → Place → Test
 is_callee_at m p = list_any (λ (o : OwnedExpr). calls_at p o.expr) (exprs_of_module m)
-
--- whether an expression is a call of `range`
-abbrev pub is_range_call : Expr → Test
-is_range_call (call q callee args kws) = is_named (codes "range") callee
-is_range_call e = false
 
 -- A5, E18 at an iterable: the misfit of a call of `range`, or the type of the iterable
 abbrev pub loop_detail : Module → Known → Expr → Option (Detail Tree)
@@ -125,3 +122,22 @@ detail_under m labels f = detail_for m (known_under m labels) f.place f.code
 -- a detail explains a finding: it is that of every lawful labelling of the module
 abbrev pub Explains : Module → Finding → Detail Tree → Type 0
 Explains m f d = (labels : Labelling m) → IsLawful m labels → detail_under m labels f ≡ Some d
+
+-- the annotation of the target of the flow at a place, if the code is that of a flow and the target has one
+abbrev pub annotation_for : Module → Known → Place → Code → Option Ann
+annotation_for m known p A1 = flow_annotation m known A1 p
+annotation_for m known p E12 = flow_annotation m known E12 p
+annotation_for m known p c = None
+
+-- the annotation of the target of a finding, if there is one, is this under every lawful labelling of the module
+abbrev pub IsAnnotated : Module → Finding → Option Ann → Type 0
+IsAnnotated m f a = (labels : Labelling m) → IsLawful m labels
+    → annotation_for m (known_under m labels) f.place f.code ≡ a
+
+-- the words of a finding: a detail explains it, and these are the detail as it is told, with the annotation of its target
+pub record AreWords (m : Module) (f : Finding) (words : Detail Words) : Type 0 where
+  pub detail : Detail Tree
+  pub explains : Explains m f detail
+  pub annotation : Option Ann
+  pub annotated : IsAnnotated m f annotation
+  pub told : words ≡ told_detail m annotation detail

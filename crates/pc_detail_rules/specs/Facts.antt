@@ -1,5 +1,5 @@
--- What is known of a module beside its tree: the first type and the first flows at each place under its labelling, the
--- types of callees included. Own rule of the profile.
+-- The facts of a module that its tree does not show: the first type and the first flows at each place under its
+-- labelling, the types of callees included. Own rule of the profile.
 use Rattle.std.specs.Prelude.{◌≡◌, Option, unwrap_or, true}
 use Rattle.pc_source.specs.declared.place.Place.{Place}
 use Rattle.pc_tree.specs.declared.code.Code.{Code}
@@ -16,8 +16,8 @@ pub record Known : Type 0 where
   pub types : Place → Tree
   pub flows : Code → Place → Option (Tree × Tree)
 
--- what is known under a labelling: the type of the first expression at a place, Any if there is none, and the two types
--- of the first flow there with a code
+-- the facts of a module under a labelling: the type of the first expression at a place, Any if there is none, and the
+-- two types of the first flow there with a code
 abbrev pub known_under : (m : Module) → Labelling m → Known
 known_under m labels = record {
   types = λ p. unwrap_or (first_type_at p (labelled_types true m labels)) Any;

@@ -13,3 +13,4 @@ pub mod Sinks
 pub mod Statements
 pub mod Texts
 pub mod ToldTypes
+pub mod Written

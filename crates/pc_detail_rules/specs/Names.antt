@@ -11,7 +11,7 @@ use Rattle.pc_tree.specs.Tree.{ClassDef, Module}
 use Rattle.pc_scope.specs.declared.resolution.Owner.{Owner}
 use Rattle.pc_scope.specs.declared.resolution.Owner.TheVariants as owners
 use Rattle.pc_scope.specs.declared.resolution.NameMeaning.{NameMeaning}
-use Rattle.pc_scope.specs.declared.resolution.NameMeaning.TheVariants as res
+use Rattle.pc_scope.specs.declared.resolution.NameMeaning.TheVariants as meaning
 use Rattle.pc_scope.specs.Bindings.{param_names, constants_in, classes_in, Body, bodies}
 use Rattle.pc_scope.specs.Expressions.{keyword_names}
 use Rattle.pc_scope.specs.Resolution.{function_of, resolve_in_module}
@@ -101,7 +101,7 @@ repeated_name is_self earlier (Some n) = Some (earlier n.place)
 repeated_name true earlier None = Some detail.earlier_self
 repeated_name false earlier None = None
 
--- what already has this name, among the names before it that are bound together with it
+-- the earlier binding of this name, among the names before it that are bound together with it
 abbrev pub repeated_after : Together → (before : List Name) → Name → Option Earlier
 repeated_after t before n =
     repeated_name (t.behind_self && bytes_eq n.text (codes "self")) t.earlier (first_named n.text before)
@@ -165,9 +165,9 @@ early_at word n = option_map (λ x. detail.early_name word x.place) n
 
 -- the name as one that is used too early, if it means a function, a class or a constant
 abbrev pub early_of : Module → (name : List ℕ) → NameMeaning → Option Early
-early_of m word (res.Func i) = Some (detail.early_function word)
-early_of m word (res.Class c) = early_at word (option_map (λ x. x.name) (slice_get (classes_in m.items) c))
-early_of m word (res.Const i) = early_at word (option_map (λ x. x.name) (slice_get (constants_in m.items) i))
+early_of m word (meaning.Func i) = Some (detail.early_function word)
+early_of m word (meaning.Class c) = early_at word (option_map (λ x. x.name) (slice_get (classes_in m.items) c))
+early_of m word (meaning.Const i) = early_at word (option_map (λ x. x.name) (slice_get (constants_in m.items) i))
 early_of m word r = None
 
 -- E03: the name or callee that the initializer uses too early
@@ -255,7 +255,7 @@ numbered_classes m = numbered_from 0 (classes_in m.items)
 abbrev pub place_of_member : Member → Place
 place_of_member x = (name_of_member x).place
 
--- the detail of the first member of a class whose name stands at a place and that has one
+-- the detail of the first member of a class whose name is at a place and that has one
 abbrev pub clash_in_class : Module → Place → NumberedClass → Option (Detail Tree)
 clash_in_class m p n = first_from place_of_member (clash_detail m n) p [] n.class.members
 
@@ -296,13 +296,12 @@ abbrev pub entry_order : (above : List OwnedMember) → ClassDef → (before : L
     → Option (Detail Tree)
 entry_order above class before e = order_detail (above ++ flat_map (bound_member class) before) e.member
 
--- the detail of the first member of a class whose name stands at a place after a field with a default, its own or one
--- above
+-- the detail of the first member of a class whose name is at a place after a field with a default, its own or one above
 abbrev pub order_in_class : Module → Place → NumberedClass → Option (Detail Tree)
 order_in_class m p n = first_from place_of_entry (entry_order (members_above m n.number) n.class) p []
     (class_entries (inherited_by (base_class m n.number n.class)) n.class)
 
--- E08: the first field with a default that stands before, its class and its place
+-- E08: the first field with a default before it, with its class and its place
 abbrev pub field_order_detail : Module → Place → Option (Detail Tree)
 field_order_detail m p = first_of_all (order_in_class m p) (numbered_classes m)
 
@@ -357,14 +356,14 @@ place_of_param x = x.name.place
 abbrev pub order_of_param : (before : List Param) → Param → Option (Detail Tree)
 order_of_param before x = option_map (default_order_after x.name) (find (λ y. is_some y.default) before)
 
--- the detail of the first of some parameters that stands at a place after one with a default
+-- the detail of the first of some parameters that is at a place after one with a default
 abbrev pub default_order_among : Place → List Param → Option (Detail Tree)
 default_order_among p params = first_from place_of_param order_of_param p [] params
 
--- the detail of the first parameter of a function that stands at a place after one with a default
+-- the detail of the first parameter of a function that is at a place after one with a default
 abbrev pub default_order_in : Place → Body → Option (Detail Tree)
 default_order_in p b = default_order_among p b.function.params
 
--- E31: the first parameter with a default that stands before
+-- E31: the first parameter with a default before it
 abbrev pub default_order_detail : Module → Place → Option (Detail Tree)
 default_order_detail m p = first_of_all (default_order_in p) (bodies m)

@@ -18,7 +18,7 @@ use Rattle.pc_detail_texts.specs.Details.{FunctionName}
 
 -- ---- expressions
 
--- an expression, with the function or method that it stands in
+-- an expression, with the function or method that contains it
 pub record OwnedExpr : Type 0 where
   pub owner : Owner
   pub expr : Expr

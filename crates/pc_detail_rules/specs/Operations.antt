@@ -15,7 +15,7 @@ use Rattle.pc_tree.specs.Tree.{attribute, index, no_exprs, more_exprs, no_entrie
 use Rattle.pc_tree.specs.Tree.{Target, to_attribute, to_index, Module}
 use Rattle.pc_tree.specs.Depth.{place_of}
 use Rattle.pc_scope.specs.declared.resolution.NameMeaning.{NameMeaning}
-use Rattle.pc_scope.specs.declared.resolution.NameMeaning.TheVariants as res
+use Rattle.pc_scope.specs.declared.resolution.NameMeaning.TheVariants as meaning
 use Rattle.pc_scope.specs.Resolution.{resolve}
 use Rattle.pc_scope.specs.Bindings.{classes_in}
 use Rattle.pc_types.specs.Tree.{Tree, Int, Str, Class, ListOf, DictOf, TupleOf}
@@ -129,9 +129,9 @@ different before (t ∷ ts) = if list_any (same_tree t) before then different be
 
 -- the meaning of a name that is not a value
 abbrev pub meaning_of_name : List ℕ → NameMeaning → Option detail.NoValue
-meaning_of_name word (res.Func i) = Some (detail.means_function word)
-meaning_of_name word (res.Class c) = Some (detail.means_class word)
-meaning_of_name word (res.Builtin b) = Some (detail.means_reserved word)
+meaning_of_name word (meaning.Func i) = Some (detail.means_function word)
+meaning_of_name word (meaning.Class c) = Some (detail.means_class word)
+meaning_of_name word (meaning.Builtin b) = Some (detail.means_reserved word)
 meaning_of_name word _ = None
 
 module _ (m : Module) (known : Known) where
@@ -214,7 +214,7 @@ module _ (m : Module) (known : Known) where
   method_target (to_attribute p e field) = method_store_detail m (type_here e) field.text
   method_target _ = None
 
-  -- what an expression means that is no value
+  -- the meaning of an expression that is no value
   abbrev pub meaning_here : (resolve : List ℕ → NameMeaning) → Expr → Option detail.NoValue
   meaning_here resolve (name n) = meaning_of_name n.text (resolve n.text)
   meaning_here resolve (attribute p e field) = option_map (λ f. detail.means_method (method_name m f))

@@ -8,10 +8,10 @@ use Rattle.pc_source.specs.declared.place.Place.{Place}
 use Rattle.pc_tree.specs.declared.tree.ComparisonOperator.{ComparisonOperator}
 use Rattle.pc_tree.specs.declared.tree.ComparisonOperator.TheVariants.{In, NotIn}
 use Rattle.pc_tree.specs.declared.code.Code.{Code}
-use Rattle.pc_tree.specs.Tree.{Expr, Exprs, Entries, Keywords, list, dict, compare, index, call, no_exprs}
+use Rattle.pc_tree.specs.Tree.{Ann, Expr, Exprs, Entries, Keywords, list, dict, compare, index, call, no_exprs}
 use Rattle.pc_tree.specs.Tree.{more_exprs, no_entries, more_entries, no_keywords, more_keywords, Literal, Param}
 use Rattle.pc_tree.specs.Tree.{Target, to_name, to_attribute, to_index, Stmt, returns, annotated, assigns, for_loop}
-use Rattle.pc_tree.specs.Tree.{Member, field_member, method_member, ClassDef, Constant, Module}
+use Rattle.pc_tree.specs.Tree.{FuncDef, Member, field_member, method_member, ClassDef, Constant, Module}
 use Rattle.pc_tree.specs.Depth.{place_of}
 use Rattle.pc_scope.specs.declared.resolution.NameMeaning.{NameMeaning}
 use Rattle.pc_scope.specs.Bindings.{constants_in, classes_in, Body, bodies}
@@ -33,20 +33,27 @@ use Rattle.pc_detail_texts.specs.Details.{Detail, Callable, Sink, FunctionName}
 use Rattle.pc_detail_rules.specs.Facts.{Known}
 use Rattle.pc_detail_rules.specs.Nodes.{OwnedExpr, exprs_of_module, stmts_in_suite, function_name}
 use Rattle.pc_detail_rules.specs.Calls.{Called, callees_of}
+use Rattle.pc_detail_rules.specs.Written.{written_at, annotation_by_name, field_annotation, local_annotation}
 
--- a sink of the value at a place: the type that the value flows into, none if it is the only sink there
+-- a sink of the value at a place: the type that the value flows into, none if it is the only sink there; and the
+-- annotation of the sink, if it has one
 pub record SinkAt : Type 0 where
   pub place : Place
   pub into : Option Tree
   pub sink : Sink Tree
+  pub written : Option Ann
 
--- the sink of a value at this place, which has no other
-abbrev pub only_sink : Place → Sink Tree → SinkAt
-only_sink p s = record { place = p; into = None; sink = s }
+-- the sink of a value at this place, which has no other, with its annotation
+abbrev pub only_sink : Place → Sink Tree → Option Ann → SinkAt
+only_sink p s a = record { place = p; into = None; sink = s; written = a }
 
--- a sink of a value at this place, with its type
+-- a sink of a value at this place, with its type and its annotation
+abbrev pub written_sink : Place → Sink Tree → Tree → Option Ann → SinkAt
+written_sink p s t a = record { place = p; into = Some t; sink = s; written = a }
+
+-- a sink of a value at this place, with its type, that has no annotation
 abbrev pub one_sink : Place → Sink Tree → Tree → SinkAt
-one_sink p s t = record { place = p; into = Some t; sink = s }
+one_sink p s t = written_sink p s t None
 
 -- ---- flows
 
@@ -58,6 +65,10 @@ takes_into p t s = is_same_place p s.place && option_map_or (same_tree t) s.into
 abbrev pub sink_among : List SinkAt → Place → Tree → Option (Sink Tree)
 sink_among ss p t = option_map (λ s. s.sink) (find (takes_into p t) ss)
 
+-- the annotation of the first of some sinks that takes a value of this place into this type, if it has one
+abbrev pub written_among : List SinkAt → Place → Tree → Option Ann
+written_among ss p t = option_and_then (λ s. s.written) (find (takes_into p t) ss)
+
 -- a flow of two types at a place, with the first of some sinks that takes it
 abbrev pub flow_with : List SinkAt → Place → (from into : Tree) → Option (Detail Tree)
 flow_with ss p s t = option_map (detail.flow s t) (sink_among ss p t)
@@ -66,6 +77,10 @@ flow_with ss p s t = option_map (detail.flow s t) (sink_among ss p t)
 abbrev pub flow_among : List SinkAt → Place → Option (Tree × Tree) → Option (Detail Tree)
 flow_among ss p types = option_and_then (λ st. flow_with ss p st.0 st.1) types
 
+-- the annotation of the target of a flow at a place, if there is one: of the first of some sinks that takes it
+abbrev pub annotation_among : List SinkAt → Place → Option (Tree × Tree) → Option Ann
+annotation_among ss p types = option_and_then (λ st. written_among ss p st.1) types
+
 -- ---- arguments
 
 -- a parameter as a sink; a callee that takes arguments by position only has no names for them
@@ -73,28 +88,33 @@ abbrev pub parameter_sink : Callable Tree → (takes_names : Test) → TypedPara
 parameter_sink what true p = detail.a_parameter p.name what
 parameter_sink what false p = detail.an_argument what
 
--- the sink of an argument that one callee takes with this parameter, if there is one
-abbrev pub sink_of_parameter : Place → Callable Tree → (takes_names : Test) → Option TypedParameter → List SinkAt
-sink_of_parameter place what takes_names None = []
-sink_of_parameter place what takes_names (Some q) = one_sink place (parameter_sink what takes_names q) q.type ∷ []
+-- the sink of an argument that one callee takes with this parameter, if there is one, with its annotation
+abbrev pub sink_of_parameter : Place → Callable Tree → (takes_names : Test) → Option Ann → Option TypedParameter
+    → List SinkAt
+sink_of_parameter place what takes_names written None = []
+sink_of_parameter place what takes_names written (Some q) =
+    written_sink place (parameter_sink what takes_names q) q.type written ∷ []
 
--- the sink of an argument by position with one signature
-abbrev pub positional_in : Place → ℕ → Callable Tree → Option Signature → List SinkAt
-positional_in place k what None = []
-positional_in place k what (Some s) = sink_of_parameter place what s.takes_names (slice_get s.parameters k)
+-- the sink of an argument by position with one signature, whose parameters have these annotations
+abbrev pub positional_in : Place → ℕ → Callable Tree → List (Option Ann) → Option Signature → List SinkAt
+positional_in place k what annotations None = []
+positional_in place k what annotations (Some s) =
+    sink_of_parameter place what s.takes_names (written_at annotations k) (slice_get s.parameters k)
 
--- the sink of an argument by name with one signature
-abbrev pub named_in : Place → List ℕ → Callable Tree → Option Signature → List SinkAt
-named_in place word what None = []
-named_in place word what (Some s) = sink_of_parameter place what s.takes_names (field_by_name s.parameters word)
+-- the sink of an argument by name with one signature, whose parameters have these annotations
+abbrev pub named_in : Place → List ℕ → Callable Tree → List (Option Ann) → Option Signature → List SinkAt
+named_in place word what annotations None = []
+named_in place word what annotations (Some s) =
+    sink_of_parameter place what s.takes_names (annotation_by_name s.parameters annotations word)
+    (field_by_name s.parameters word)
 
 -- the sink of an argument by position of one callee, if the callee takes it
 abbrev pub positional_on : Place → ℕ → Called → List SinkAt
-positional_on place k c = positional_in place k c.what c.signature
+positional_on place k c = positional_in place k c.what c.annotations c.signature
 
 -- the sink of an argument by name of one callee, if the callee takes it
 abbrev pub named_on : Place → List ℕ → Called → List SinkAt
-named_on place word c = named_in place word c.what c.signature
+named_on place word c = named_in place word c.what c.annotations c.signature
 
 -- the sinks of arguments by position, from this position on
 abbrev pub positional_sinks : List Called → ℕ → Exprs → List SinkAt
@@ -149,10 +169,10 @@ compared_sinks In p t = flat_map (sought_in p) (members t)
 compared_sinks NotIn p t = flat_map (sought_in p) (members t)
 compared_sinks o p t = []
 
--- the sink of a value that is stored to a field of this name, if the class has it
-abbrev pub field_sink : Place → (class name : List ℕ) → Option TypedParameter → List SinkAt
-field_sink place class word None = []
-field_sink place class word (Some q) = one_sink place (detail.a_field class word) q.type ∷ []
+-- the sink of a value that is stored to a field of this name, if the class has it, with its annotation
+abbrev pub field_sink : Place → (class name : List ℕ) → Option Ann → Option TypedParameter → List SinkAt
+field_sink place class word written None = []
+field_sink place class word written (Some q) = written_sink place (detail.a_field class word) q.type written ∷ []
 
 -- the sink of an index of one member, if the member takes one
 abbrev pub index_in : Module → Expr → Tree → List SinkAt
@@ -171,8 +191,8 @@ item_store p q u = map (one_sink p (index_sink u)) (store_index_member u).takes
 
 -- the sinks of a value at this place that is stored to a field of this name of one member
 abbrev pub field_store : Module → Place → List ℕ → Tree → List SinkAt
-field_store m p word (Class c) =
-    field_sink p (class_text m c) word (field_by_name (class_facts_at (classes_of m) c).fields word)
+field_store m p word (Class c) = field_sink p (class_text m c) word (field_annotation m c word)
+    (field_by_name (class_facts_at (classes_of m) c).fields word)
 field_store m p word t = []
 
 -- the place of a value, or this one if there is none
@@ -182,18 +202,19 @@ value_place p (Some e) = place_of e
 
 -- ---- defaults and constants
 
--- the sink of a default, if there is one
-abbrev pub default_sink : Sink Tree → Option Literal → List SinkAt
-default_sink s None = []
-default_sink s (Some l) = only_sink (literal_place l) s ∷ []
+-- the sink of a default, if there is one, with its annotation
+abbrev pub default_sink : Sink Tree → Option Ann → Option Literal → List SinkAt
+default_sink s a None = []
+default_sink s a (Some l) = only_sink (literal_place l) s a ∷ []
 
 -- the sink of the default of a function's parameter
 abbrev pub parameter_default : FunctionName → Param → List SinkAt
-parameter_default f p = default_sink (detail.a_parameter_default p.name.text f) p.default
+parameter_default f p = default_sink (detail.a_parameter_default p.name.text f) p.annotation p.default
 
 -- the sink of the default of a field
 abbrev pub default_of_field : (class : List ℕ) → Member → List SinkAt
-default_of_field class (field_member d) = default_sink (detail.a_field_default class d.name.text) d.default
+default_of_field class (field_member d) =
+    default_sink (detail.a_field_default class d.name.text) (Some d.annotation) d.default
 default_of_field class (method_member f) = []
 
 -- the sinks of the defaults of the fields of a class
@@ -202,7 +223,7 @@ sinks_of_class c = flat_map (default_of_field c.name.text) c.members
 
 -- the sink of the value of a constant
 abbrev pub sinks_of_constant : Constant → List SinkAt
-sinks_of_constant c = only_sink (place_of c.value) (detail.a_constant c.name.text) ∷ []
+sinks_of_constant c = only_sink (place_of c.value) (detail.a_constant c.name.text) c.annotation ∷ []
 
 module _ (m : Module) (known : Known) where
   -- the sinks of the parts of an expression, in a function or method with this meaning of names
@@ -219,25 +240,28 @@ module _ (m : Module) (known : Known) where
   abbrev pub sinks_in : OwnedExpr → List SinkAt
   sinks_in o = sinks_below (resolve m o.owner) o.expr
 
-  -- the sinks of an assigned value, and of the index of its target
-  abbrev pub assigned_sinks : Target → Expr → List SinkAt
-  assigned_sinks (to_name n) e = only_sink (place_of e) (detail.a_local n.text) ∷ []
-  assigned_sinks (to_attribute p o field) e =
+  -- the sinks of a value that a function assigns, and of the index of its target
+  abbrev pub assigned_sinks : FuncDef → Target → Expr → List SinkAt
+  assigned_sinks f (to_name n) e = only_sink (place_of e) (detail.a_local n.text) (local_annotation f n.text) ∷ []
+  assigned_sinks f (to_attribute p o field) e =
       flat_map (field_store m (place_of e) field.text) (members (known.types (place_of o)))
-  assigned_sinks (to_index p o i) e = flat_map (item_store (place_of i) (place_of e)) (members (known.types (place_of o)))
+  assigned_sinks f (to_index p o i) e = flat_map (item_store (place_of i) (place_of e)) (members (known.types (place_of o)))
 
   -- the sinks of a statement in this function: of the value that it returns, binds or stores, or of the item of a loop
-  abbrev pub sinks_of_stmt : FunctionName → Stmt → List SinkAt
-  sinks_of_stmt f (returns p e) = only_sink (value_place p e) (detail.a_return f) ∷ []
-  sinks_of_stmt f (annotated p n a e) = only_sink (value_place p e) (detail.a_local n.text) ∷ []
-  sinks_of_stmt f (assigns p t e) = assigned_sinks t e
-  sinks_of_stmt f (for_loop p n e b) = only_sink (place_of e) (detail.a_loop_target n.text) ∷ []
-  sinks_of_stmt f s = []
+  abbrev pub sinks_of_stmt : Body → Stmt → List SinkAt
+  sinks_of_stmt b (returns p e) =
+      only_sink (value_place p e) (detail.a_return (function_name m b)) b.function.returns ∷ []
+  sinks_of_stmt b (annotated p n a e) =
+      only_sink (value_place p e) (detail.a_local n.text) (local_annotation b.function n.text) ∷ []
+  sinks_of_stmt b (assigns p t e) = assigned_sinks b.function t e
+  sinks_of_stmt b (for_loop p n e s) =
+      only_sink (place_of e) (detail.a_loop_target n.text) (local_annotation b.function n.text) ∷ []
+  sinks_of_stmt b s = []
 
   -- the sinks in a function: of its defaults, and in its statements
   abbrev pub sinks_of_body : Body → List SinkAt
   sinks_of_body b = flat_map (parameter_default (function_name m b)) b.function.params
-      ++ flat_map (sinks_of_stmt (function_name m b)) (stmts_in_suite b.function.body)
+      ++ flat_map (sinks_of_stmt b) (stmts_in_suite b.function.body)
 
   -- the sinks of a module
   abbrev pub sinks_of : List SinkAt
@@ -250,3 +274,7 @@ module _ (m : Module) (known : Known) where
   -- flow with a code is that flow's own
   abbrev pub flow_detail : Code → Place → Option (Detail Tree)
   flow_detail c p = flow_among sinks_of p (known.flows c p)
+
+  -- the annotation of the target of that flow, if it has one
+  abbrev pub flow_annotation : Code → Place → Option Ann
+  flow_annotation c p = annotation_among sinks_of p (known.flows c p)

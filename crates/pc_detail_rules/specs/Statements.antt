@@ -26,7 +26,7 @@ loose_detail (breaks p) = Some (detail.outside_loop detail.leaves_by_break)
 loose_detail (continues p) = Some (detail.outside_loop detail.leaves_by_continue)
 loose_detail s = None
 
--- the detail of a statement outside a loop that stands at a place
+-- the detail of a statement outside a loop that is at a place
 abbrev pub loose_at : Place → Stmt → Option (Detail Tree)
 loose_at p s = if is_same_place p (first_token_place s) then loose_detail s else None
 

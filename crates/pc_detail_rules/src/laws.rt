@@ -6,7 +6,7 @@ ghost use Rattle.pc_detail_rules.specs.Calls.{MisfitsAreExact};
 ghost use Rattle.pc_detail_rules.specs.Laws.{DynamicDetailsAreFlows, DynamicFlowsAreNotStatic};
 ghost use Rattle.pc_detail_rules.specs.Laws.{EveryFindingIsExplained, WrongCallsHaveMisfits};
 ghost use Rattle.pc_detail_rules.specs.Laws.{WrongFlowsAreNotAssignable};
-ghost use Rattle.pc_detail_rules.specs.Noted.{DetailsAreReadOffNotes, NotesTellWhatIsKnown};
+ghost use Rattle.pc_detail_rules.specs.Noted.{AnnotationsAreReadOffNotes, DetailsAreReadOffNotes, NotesTellWhatIsKnown};
 ghost use Rattle.pc_detail_rules.specs.Operations.{LackingIsExact};
 ghost use Rattle.pc_detail_rules.specs.Overrides.{OverrideFaultsAreExact, OverridesAreExplained};
 ghost use Rattle.pc_detail_rules.specs.Texts.{EveryFindingOfTextsIsExplained, TextsHaveOwnPlaces};
@@ -61,6 +61,11 @@ pub fn notes_tell_what_is_known()
 /// A detail explains a finding exactly if the rule of its code gives it over what the notes of such a check tell.
 pub fn details_are_read_off_notes()
     ensures { DetailsAreReadOffNotes }
+{}
+
+/// An annotation is that of the target of a finding exactly if it is by what the notes of such a check tell.
+pub fn annotations_are_read_off_notes()
+    ensures { AnnotationsAreReadOffNotes }
 {}
 
 /// The two types of a detail of A1 are those that flow dynamically at its place: the first is assignable to the second,

@@ -305,7 +305,8 @@ error_sentence (operator o) = operation_text o ++ codes " is not defined"
 error_sentence (call callee misfit) = misfit_text (callable_text callee) misfit
 error_sentence (attribute object lacking name hint) =
     object ++ (codes " has no attribute " ++ (name ++ (where_it_is object lacking ++ hint_text name hint)))
-error_sentence (index object lacking key) = object ++ (codes " has no items" ++ where_it_is object lacking)
+error_sentence (index object lacking key) =
+    object ++ (codes " has no items to index with " ++ (key ++ where_it_is object lacking))
 error_sentence (store object lacking) =
     codes "items of " ++ (object ++ (codes " cannot be assigned" ++ where_it_is object lacking))
 error_sentence (iterate iterable lacking) = iterable ++ (codes " cannot be looped over" ++ where_it_is iterable lacking)

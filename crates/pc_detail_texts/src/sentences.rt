@@ -1,7 +1,7 @@
 //! The sentence of a detail.
 
 ghost use Rattle.std.specs.Prelude.{◌≡◌, ◌++◌, OnOk, string_bytes, codes};
-ghost use Rattle.pc_detail_texts.specs.Details.{attribute, contain};
+ghost use Rattle.pc_detail_texts.specs.Details.{attribute, contain, index};
 ghost use Rattle.pc_detail_texts.specs.Sentences.{function_text, callable_text, between_text, operation_text, hint_text};
 ghost use Rattle.pc_detail_texts.specs.Sentences.{where_it_is, override_text, error_sentence, doubt, sentence_of};
 ghost use Rattle.pc_detail_texts.specs.Sentences.{sink_text};
@@ -74,6 +74,15 @@ fn push_lacking(
     push_where(text, of)
 }
 
+/// Appends that an object has no items to index with a value of this type, and the members that are at fault.
+fn push_no_items(text: &mut String, of: &Unsupported, key: &RcStr) -> Result<(), OutOfMemory>
+    ensures { OnOk result (string_bytes text.new ≡ string_bytes text.old
+        ++ error_sentence (index (words of.now.object) (all_words of.now.lacking.items) (words key.now))) }
+{
+    push_pair(text, "", &of.object, " has no items to index with ", key)?;
+    push_where(text, of)
+}
+
 /// Appends that `in` is not defined for its operands, and the members that are at fault.
 fn push_uncontained(text: &mut String, sought: &RcStr, of: &Unsupported) -> Result<(), OutOfMemory>
     ensures { OnOk result (string_bytes text.new ≡ string_bytes text.old
@@ -94,7 +103,7 @@ fn push_type_fault(text: &mut String, fault: &TypeFault) -> Result<(), OutOfMemo
         TypeFault::Operator(operator) => push_undefined(text, operator),
         TypeFault::Call(callable, misfit) => push_misfit(text, callable, misfit),
         TypeFault::Attribute(attribute) => push_attribute(text, attribute),
-        TypeFault::Index(of, _) => push_lacking(text, "", of, " has no items"),
+        TypeFault::Index(of, key) => push_no_items(text, of, key),
         TypeFault::Store(of) => push_lacking(text, "items of ", of, " cannot be assigned"),
         TypeFault::Iterate(of) => push_lacking(text, "", of, " cannot be looped over"),
         TypeFault::IterateRange(_) => push_text(text, "this call of range does not fit"),

@@ -4,7 +4,7 @@ use Rattle.std.specs.List.{AllByRecursion}
 use Rattle.std.specs.Prelude.{Contains, Err, IfOk, Ok, Result, Vec}
 use Rattle.std.specs.declared.alloc.Global.{Global}
 use Rattle.std.specs.Option.{option_map}
-use Rattle.pc_tree.specs.Tree.{Module}
+use Rattle.pc_tree.specs.Tree.{Ann, Module}
 use Rattle.pc_types.specs.Boxed.{tree_of}
 use Rattle.pc_types.specs.Tree.{Tree}
 use Rattle.pc_types.specs.declared.boxed.BoxType.{BoxType}
@@ -15,20 +15,20 @@ use Rattle.pc_class.specs.Tables.{ClassEntry, classes_with}
 use Rattle.pc_class.proofs.ItemsBuilt.{bases_are, bases_there}
 use Rattle.pc_notes.specs.Notes.{Note}
 use Rattle.pc_detail_texts.specs.Details.{Detail}
-use Rattle.pc_detail_texts.specs.Mapped.{map_detail}
 use Rattle.pc_detail_texts.specs.Shown.{detail_of_value}
 use Rattle.pc_detail_texts.specs.declared.details.Detail.{Detail as RustDetail}
 use Rattle.pc_details.specs.declared.explained.DetailedFinding.{DetailedFinding as RustDetailed}
 use Rattle.pc_detail_facts.specs.declared.facts.Facts.{Facts}
 use Rattle.pc_detail_facts.specs.declared.known.Known.{Known as RustKnown}
 use Rattle.pc_tree.specs.declared.code.Finding.{Finding}
-use Rattle.pc_detail_rules.specs.Explains.{detail_for}
+use Rattle.pc_detail_rules.specs.Explains.{annotation_for, detail_for}
 use Rattle.pc_detail_rules.specs.Facts.{TellTheSame}
-use Rattle.pc_detail_facts.specs.Held.{HoldsNotes, known_held, known_of, module_held, text_held}
-use Rattle.pc_details.specs.Made.{IsDetailOf, IsOf}
+use Rattle.pc_detail_facts.specs.Held.{HoldsNotes, known_held, known_of, module_held}
+use Rattle.pc_details.specs.Made.{IsDetailOf, IsToldAt, told_at}
 use Rattle.pc_detail_rules.specs.Noted.{known_by}
 use Rattle.pc_details.specs.Listed.{IsMade}
-use Rattle.pc_detail_rules.proofs.KnownAlike.{same_details}
+use Rattle.pc_detail_rules.proofs.KnownAlike.{same_annotation, same_details}
+use Rattle.pc_detail_rules.specs.ToldTypes.{told_detail}
 
 -- the parents of the classes of a table are the bases of the module
 pub parents_of_table : (m : Module) (es : List (ClassEntry BoxType)) → classes_with tree_of es ≡ classes_of m
@@ -49,14 +49,17 @@ one_made notes f findings told d h =
     by (detail_for (module_held f) (known_held f) d.finding.place d.finding.code) refl h.by_rule
   where
     by : (o : Option (Detail Tree)) → detail_for (module_held f) (known_held f) d.finding.place d.finding.code ≡ o
-        → Some (detail_of_value d.detail) ≡ option_map (map_detail (text_held f)) o → IsMade (module_held f) notes findings d
+        → Some (detail_of_value d.detail) ≡ option_map (told_detail (module_held f) (annotation_for (module_held f)
+        (known_held f) d.finding.place d.finding.code)) o → IsMade (module_held f) notes findings d
     by None e shown = absurd (cc shown)
     by (Some x) e shown = record {
       listed = h.listed;
       detail = x;
       by_rule = same_details (module_held f) (known_by notes) (known_held f) (alike notes f.known.now told) d.finding.place
           d.finding.code ∙ e;
-      shown = some_same (detail_of_value d.detail) (map_detail (text_held f) x) shown;
+      shown = some_same (detail_of_value d.detail) _ shown
+          ∙ ap (λ (a : Option Ann). told_detail (module_held f) a x) (sym (same_annotation (module_held f) (known_by notes)
+          (known_held f) (alike notes f.known.now told) d.finding.place d.finding.code));
     }
 
 -- likewise of all
@@ -87,12 +90,11 @@ detailed x d = record { finding = x; detail = d }
 -- the detail of one finding more
 pub detail_more : (f g : Facts) (findings : List Finding) (ds : List RustDetailed) (x : Finding) (o : Option RustDetail)
     (d : RustDetail) → g ≡ f → AllByRecursion (IsDetailOf f findings) ds → Contains findings x → o ≡ Some d
-    → IsOf g (detail_for (module_held g) (known_held g) x.place x.code) o
+    → IsToldAt g x.place x.code o
     → AllByRecursion (IsDetailOf f findings) (ds ++ detailed x d ∷ [])
 detail_more f g findings ds x o d same all listed is made =
     all_push (IsDetailOf f findings) ds (detailed x d) all (record { listed = listed; by_rule = shown })
   where
-    shown : Some (detail_of_value d)
-        ≡ option_map (map_detail (text_held f)) (detail_for (module_held f) (known_held f) x.place x.code)
-    shown = subst (λ (h : Facts). IsOf h (detail_for (module_held h) (known_held h) x.place x.code) (Some d)) same
-        (subst (λ (p : Option RustDetail). IsOf g (detail_for (module_held g) (known_held g) x.place x.code) p) is made)
+    shown : Some (detail_of_value d) ≡ told_at f x.place x.code
+    shown = subst (λ (h : Facts). IsToldAt h x.place x.code (Some d)) same
+        (subst (λ (p : Option RustDetail). IsToldAt g x.place x.code p) is made)

@@ -15,30 +15,29 @@ use Rattle.pc_source.specs.declared.place.Place.{Place}
 use Rattle.pc_tree.specs.declared.code.Code.{Code}
 use Rattle.pc_tree.specs.declared.code.Code.TheVariants.{A1, E12}
 use Rattle.pc_tree.specs.declared.code.Finding.{Finding}
-use Rattle.pc_tree.specs.Tree.{Module}
+use Rattle.pc_tree.specs.Tree.{Ann, Module}
 use Rattle.pc_types.specs.Tree.{Tree}
 use Rattle.pc_notes.specs.Notes.{Note}
 use Rattle.pc_notes.specs.Texts.{place_cmp}
 use Rattle.pc_notes.proofs.FirstFlows.{place_same}
 use Rattle.pc_detail_texts.specs.Details.{Detail}
-use Rattle.pc_detail_texts.specs.Mapped.{map_detail}
 use Rattle.pc_detail_texts.specs.Sentences.{Words}
 use Rattle.pc_detail_texts.specs.Shown.{detail_of_value}
 use Rattle.pc_detail_texts.specs.declared.details.Detail.{Detail as RustDetail}
 use Rattle.pc_detail_texts.specs.declared.details.Flow.{Flow}
 use Rattle.pc_detail_facts.specs.declared.facts.Facts.{Facts}
-use Rattle.pc_detail_facts.specs.Held.{HoldsNotes, ShowsDetail, known_held, module_held, text_held}
-use Rattle.pc_detail_rules.specs.Explains.{detail_for}
+use Rattle.pc_detail_facts.specs.Held.{HoldsNotes, known_held, module_held}
+use Rattle.pc_detail_rules.specs.Explains.{annotation_for, detail_for}
 use Rattle.pc_detail_rules.specs.Noted.{known_by}
-use Rattle.pc_detail_rules.proofs.KnownAlike.{same_details}
-use Rattle.pc_detail_rules.specs.ToldTypes.{told_type}
+use Rattle.pc_detail_rules.proofs.KnownAlike.{same_annotation, same_details}
+use Rattle.pc_detail_rules.specs.ToldTypes.{told_detail}
 use Rattle.pc_flow_details.specs.Kept.{flow_of_value}
 use Rattle.pc_name_details.specs.declared.offers.Offers.{Offers}
 use Rattle.pc_name_details.specs.Offered.{finding_cmp, kept_of}
 use Rattle.pc_details.specs.declared.explained.DetailedFinding.{DetailedFinding as RustDetailed}
 use Rattle.pc_details.specs.declared.walked.WalkedModule.{WalkedModule}
 use Rattle.pc_details.specs.Listed.{FindingsDiffer, ListedDetail, detail_told, details_told, listed_of}
-use Rattle.pc_details.specs.Made.{HoldsLeft, IsNoneOf, detail_by}
+use Rattle.pc_details.specs.Made.{HoldsLeft, IsNoneOf, ShowsToldAt, detail_by}
 use Rattle.pc_details.proofs.DetailsMade.{alike, detailed}
 use Rattle.pc_details.proofs.WalkHeld.{own_finding, with_dynamic, with_offers, with_wrong}
 
@@ -127,13 +126,9 @@ with_words x d = record { finding = x; words = d }
 
 module _ (f : Facts) (x : Finding) where
   -- a detail that was made is the one by what is held
-  shown_listed : (made : Option RustDetail)
-      → ShowsDetail f (detail_for (module_held f) (known_held f) x.place x.code) made
+  shown_listed : (made : Option RustDetail) → ShowsToldAt f x.place x.code made
       → option_map (λ d. with_words x (detail_of_value d)) made ≡ detail_by f x
-  shown_listed made h =
-      let want = detail_for (module_held f) (known_held f) x.place x.code in
-      map_twice (with_words x) detail_of_value made ∙ ap (option_map (with_words x)) h
-      ∙ sym (map_twice (with_words x) (map_detail (text_held f)) want)
+  shown_listed made h = map_twice (with_words x) detail_of_value made ∙ ap (option_map (with_words x)) h
 
 -- the details so far, and those of the findings that are left, are all
 abbrev pub AreSoFar : Facts → List Finding → ℕ → List RustDetailed → Type 0
@@ -166,13 +161,12 @@ module _ (xs : List Finding) (i : ℕ) (z : Finding) (lt : i < length xs) where
   next_apart d = first_apart next (drop (i + 1) xs) (subst FindingsDiffer (drop_more xs i z lt) d)
 
   module _ (f g : Facts) (same : g ≡ f) (ds : List RustDetailed) (so_far : AreSoFar f xs i ds) (made : Option RustDetail)
-      (shown : ShowsDetail g (detail_for (module_held g) (known_held g) next.place next.code) made) where
+      (shown : ShowsToldAt g next.place next.code made) where
     abbrev rest : List ListedDetail
     rest = filter_map (detail_by f) (drop (i + 1) xs)
 
-    shown_here : ShowsDetail f (detail_for (module_held f) (known_held f) next.place next.code) made
-    shown_here = subst (λ (h : Facts). ShowsDetail h (detail_for (module_held h) (known_held h) next.place next.code) made)
-        same shown
+    shown_here : ShowsToldAt f next.place next.code made
+    shown_here = subst (λ (h : Facts). ShowsToldAt h next.place next.code made) same shown
 
     with_next : map listed_of ds ++ cons_option (option_map (λ y. with_words next (detail_of_value y)) made) rest
         ≡ filter_map (detail_by f) xs
@@ -204,13 +198,25 @@ same_list : {A B : Type 0} (f g : A → Option B) → ((x : A) → f x ≡ g x) 
 same_list f g same [] = refl
 same_list f g same (x ∷ xs) = ap₂ cons_option (same x) (same_list f g same xs)
 
+-- a finding with a detail as it is told, given the annotation of its target
+abbrev listed_with : Module → Finding → Option Ann → Detail Tree → ListedDetail
+listed_with m x a d = with_words x (told_detail m a d)
+
 -- the details by what is held are those that the notes tell
 listed_by_notes : (f : Facts) (notes : List Note) → HoldsNotes notes f.known.now → (findings : List Finding)
     → filter_map (detail_by f) findings ≡ details_told (module_held f) notes findings
-listed_by_notes f notes h findings = same_list (detail_by f) (detail_told (module_held f) notes)
-    (λ x. ap (option_map (λ (d : Detail Tree). with_words x (map_detail (told_type (module_held f)) d)))
-    (sym (same_details (module_held f) (known_by notes) (known_held f) (alike notes f.known.now h) x.place x.code)))
-    findings
+listed_by_notes f notes h findings = same_list (detail_by f) (detail_told (module_held f) notes) each findings
+  where
+    each : (x : Finding) → detail_by f x ≡ detail_told (module_held f) notes x
+    each x =
+        let m = module_held f in
+        let same = alike notes f.known.now h in
+        let want = detail_for m (known_held f) x.place x.code in
+        sym (map_twice (with_words x) (told_detail m (annotation_for m (known_held f) x.place x.code)) want)
+        ∙ ap (λ (a : Option Ann). option_map (listed_with m x a) want)
+        (sym (same_annotation m (known_by notes) (known_held f) same x.place x.code))
+        ∙ ap (option_map (listed_with m x (annotation_for m (known_by notes) x.place x.code)))
+        (sym (same_details m (known_by notes) (known_held f) same x.place x.code))
 
 -- likewise of the details that a call gives
 pub listed_told : {E : Type 0} (r : Result (Vec RustDetailed Global) E) (f : Facts) (findings : List Finding)

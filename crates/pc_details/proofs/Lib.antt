@@ -4,5 +4,6 @@ pub mod LeftToTell
 pub mod OtherCodes
 pub mod OverrideChain
 pub mod OverrideSteps
+pub mod Told
 pub mod WalkHeld
 pub mod WalkRules

@@ -1,4 +1,4 @@
--- What a walk over a module holds for details, and what is left of it when a detail is taken out.
+-- The details that a walk over a module holds, and those that are left when one is taken out.
 use Rattle.std.proofs.Common.{◌≡◌, ◌∙◌, ◌++◌, ◌∷◌, [], List, Bool, true, false, cond, Option, Some, None, refl, sym, ap, subst, map}
 use Rattle.std.proofs.lemmas.Bool.{true≢false}
 use Rattle.std.proofs.lemmas.Cmp.{tied_itself}
@@ -34,14 +34,13 @@ use Rattle.pc_detail_rules.specs.Explains.{detail_for, is_callee_at}
 use Rattle.pc_detail_rules.specs.Facts.{Known}
 use Rattle.pc_detail_facts.specs.Held.{ShowsDetail, body_of, known_held, module_held, owned_of, text_held}
 use Rattle.pc_flow_details.specs.Kept.{flow_kept, flow_of_value}
-use Rattle.pc_details.specs.Made.{AreOf, HoldsWalk, IsOf, facts_walked}
+use Rattle.pc_details.specs.Made.{AreOf, AreThese, HoldsWalk, IsOf, facts_walked, flow_told}
 use Rattle.pc_detail_rules.specs.Names.{Together, arguments_together, first_of_all, twice_among}
 use Rattle.pc_name_details.specs.Naming.{given_rule, names_rule, statements_rule, walk_rule, walked_detail}
 use Rattle.pc_detail_rules.specs.Nodes.{OwnedExpr, anns_at, body_named_at, exprs_at, exprs_of_module, targets_at}
 use Rattle.pc_detail_nodes.specs.NodesHeld.{HoldsNodes, ann_lent, anns_held, exprs_held, target_lent, targets_held}
 use Rattle.pc_name_details.specs.Offered.{AddsDetails, finding_cmp, is_same_finding, is_wanted, kept_of, of_code}
 use Rattle.pc_detail_rules.specs.Overrides.{detail_or}
-use Rattle.pc_detail_rules.specs.Sinks.{flow_detail}
 use Rattle.pc_details.proofs.ByCode.{by_code_is}
 use Rattle.pc_name_details.proofs.FindingsKept.{finding_same}
 use Rattle.pc_name_details.proofs.NamingSteps.{all_append}
@@ -93,6 +92,11 @@ pub are_of : (f : Facts) (want : Option (Detail Tree)) (made : Option (Detail Wo
     → made ≡ option_map (map_detail (text_held f)) want → AreOf f want made
 are_of f want None e = tt
 are_of f want (Some d) e = e
+
+-- words that are these are so if there are any
+pub are_these : (want made : Option (Detail Words)) → made ≡ want → AreThese want made
+are_these want None e = tt
+are_these want (Some d) e = e
 
 -- ---- the arguments of calls
 
@@ -184,12 +188,12 @@ module _ (w : WalkedModule) where
   with_offers o = record { facts = w.facts; nodes = w.nodes; sinks = w.sinks; offers = o; bindings = w.bindings }
 
 module _ (findings : List Finding) (w : WalkedModule) (h : HoldsWalk findings w) where
-  -- the detail of a flow of the module
-  abbrev detail_at : Code → Place → Option (Detail Tree)
-  detail_at c p = flow_detail (module_held (facts_walked w)) (known_held (facts_walked w)) c p
+  -- a flow of the module as it is told
+  abbrev told_there : Code → Place → Option (Detail Words)
+  told_there c p = flow_told (facts_walked w) c p
 
-  left_of : (want : Option (Detail Tree)) (b : Bool) (o : Option Flow) → AreOf (facts_walked w) want (option_map flow_of_value o)
-      → AreOf (facts_walked w) want (option_map flow_of_value (cond b None o))
+  left_of : (want : Option (Detail Words)) (b : Bool) (o : Option Flow) → AreThese want (option_map flow_of_value o)
+      → AreThese want (option_map flow_of_value (cond b None o))
   left_of want true o e = tt
   left_of want false o e = e
 
@@ -201,8 +205,8 @@ module _ (findings : List Finding) (w : WalkedModule) (h : HoldsWalk findings w)
     facts = h.facts;
     nodes = h.nodes;
     bound = h.bound;
-    wrong = λ p. subst (λ (o : Option Flow). AreOf (facts_walked w) (detail_at E12 p) (option_map flow_of_value o))
-        (sym (step p)) (left_of (detail_at E12 p) (is_eq (place_cmp q p)) (get place_cmp w.sinks.wrong p) (h.wrong p));
+    wrong = λ p. subst (λ (o : Option Flow). AreThese (told_there E12 p) (option_map flow_of_value o))
+        (sym (step p)) (left_of (told_there E12 p) (is_eq (place_cmp q p)) (get place_cmp w.sinks.wrong p) (h.wrong p));
     dynamic = h.dynamic;
     names = h.names;
   }
@@ -216,8 +220,8 @@ module _ (findings : List Finding) (w : WalkedModule) (h : HoldsWalk findings w)
     nodes = h.nodes;
     bound = h.bound;
     wrong = h.wrong;
-    dynamic = λ p. subst (λ (o : Option Flow). AreOf (facts_walked w) (detail_at A1 p) (option_map flow_of_value o))
-        (sym (step p)) (left_of (detail_at A1 p) (is_eq (place_cmp q p)) (get place_cmp w.sinks.dynamic p) (h.dynamic p));
+    dynamic = λ p. subst (λ (o : Option Flow). AreThese (told_there A1 p) (option_map flow_of_value o))
+        (sym (step p)) (left_of (told_there A1 p) (is_eq (place_cmp q p)) (get place_cmp w.sinks.dynamic p) (h.dynamic p));
     names = h.names;
   }
 

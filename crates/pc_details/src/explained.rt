@@ -18,7 +18,7 @@ ghost use Rattle.pc_details.specs.Listed.{FindingsDiffer, IsMade, details_told, 
 use crate::walked::WalkedModule;
 use pc_annotations::ModuleOutline;
 use pc_class::{ClassTable, Listing};
-use pc_detail_facts::{Body, Definitions, Facts, Known, fields_of_classes};
+use pc_detail_facts::{Annotations, Body, Definitions, Facts, Known, fields_of_classes};
 use pc_detail_texts::Detail;
 use pc_notes::Notes;
 use pc_scope::Scopes;
@@ -83,11 +83,13 @@ fn details_by<'m>(
         (λ v. map listed_of v.items ≡ details_told (module_in outline.now) told findings.now) }
 {
     let bodies = definitions.bodies(alloc)?;
+    let annotations = Annotations::of(alloc, outline, &definitions.classes)?;
     let facts = Facts {
         alloc,
         outline,
         classes,
         fields,
+        annotations: &annotations,
         definitions,
         known,
     };

@@ -1,4 +1,4 @@
-//! What a walk over a module finds for the details of its findings.
+//! A walk over a module that collects what the details of its findings need.
 
 ghost use Rattle.std.specs.Prelude.{◌≡◌, Contains, IfOk, List, OnOk, flat_map, is_some, map};
 ghost use Rattle.std.specs.BTreeMap.{get};
@@ -12,10 +12,10 @@ ghost use Rattle.pc_notes.specs.Texts.{place_cmp};
 ghost use Rattle.pc_detail_texts.specs.Mapped.{map_detail};
 ghost use Rattle.pc_detail_texts.specs.Shown.{detail_of_value};
 ghost use Rattle.pc_details.specs.ByCode.{by_nodes, function_rule, values_rule};
-ghost use Rattle.pc_detail_rules.specs.Explains.{detail_for};
 ghost use Rattle.pc_detail_facts.specs.Held.{AreFacts, ShowsDetail, body_of, known_held, module_held, owned_of, text_held};
 ghost use Rattle.pc_flow_details.specs.Kept.{flow_of_value};
-ghost use Rattle.pc_details.specs.Made.{HoldsLeft, HoldsOf, HoldsWalk, IsNoneOf, IsOf, facts_walked};
+ghost use Rattle.pc_details.specs.Made.{HoldsLeft, HoldsOf, HoldsWalk, IsNoneOf, IsOf, IsToldAt, ShowsToldAt};
+ghost use Rattle.pc_details.specs.Made.{facts_walked};
 ghost use Rattle.pc_detail_rules.specs.Names.{arguments_of, arguments_together};
 ghost use Rattle.pc_name_details.specs.Naming.{arguments_named, given_rule, walked_detail};
 ghost use Rattle.pc_detail_rules.specs.Nodes.{exprs_of_module};
@@ -33,7 +33,7 @@ use pc_name_details::{Bindings, Offers, add_arguments, add_module, add_statement
 use pc_source::{OutOfMemory, Place};
 use pc_tree::{Code, Expr, Finding, KeywordArgument};
 
-/// What a walk over a module finds for the details of its findings.
+/// The result of a walk over a module: everything that the details of its findings need.
 #[derive(Drop)]
 pub(crate) struct WalkedModule<'m, 'n> {
     facts: &'m Facts<'m, 'n>,
@@ -49,7 +49,7 @@ fn keywords_of(expr: &Expr) -> Option<&[KeywordArgument]>
         result) ≡ arguments_of (expr_of expr.now) }
 {
     match expr {
-        Expr::Call(_, _, _, keywords) => Some(keywords),
+        Expr::Call { keywords, .. } => Some(keywords),
         _ => None,
     }
 }
@@ -205,13 +205,11 @@ impl<'m, 'n> WalkedModule<'m, 'n> {
         ensures kept { (findings : List FindingOf) → HoldsWalk findings self.old
             → OnOk result (HoldsWalk findings self.new) }
         ensures facts { OnOk result (facts_walked self.new ≡ facts_walked self.old) }
-        ensures detail { IfOk result (IsOf (facts_walked self.old) (detail_for (module_held (facts_walked self.old))
-            (known_held (facts_walked self.old)) finding.place finding.code)) }
+        ensures detail { IfOk result (IsToldAt (facts_walked self.old) finding.place finding.code) }
         ensures left { (left : List FindingOf) → HoldsLeft left self.old → IsNoneOf left finding
             → OnOk result (HoldsLeft left self.new) }
         ensures whole { (left : List FindingOf) → HoldsLeft left self.old → Contains left finding
-            → IfOk result (ShowsDetail (facts_walked self.old) (detail_for (module_held (facts_walked self.old))
-            (known_held (facts_walked self.old)) finding.place finding.code)) }
+            → IfOk result (ShowsToldAt (facts_walked self.old) finding.place finding.code) }
     {
         match finding.code {
             Code::E12 => Ok(flow_detail(self.sinks.wrong.remove(&finding.place))),

@@ -1,3 +1,5 @@
+pub mod Cutting
+pub mod Declaring
 pub mod Defining
 pub mod Finding
 pub mod Keeping

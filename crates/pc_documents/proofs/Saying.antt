@@ -19,9 +19,10 @@ use Rattle.pc_documents.specs.Agreed.{Agreed}
 use Rattle.pc_documents.specs.Anchors.{anchor_of, entry_at}
 use Rattle.pc_documents.specs.Diagnostics.{position_at, range_data, severity_of, meaning_with_types, message_text}
 use Rattle.pc_documents.specs.Diagnostics.{related_to, related_data, diagnostic_data, item_data, found_data, limited}
-use Rattle.pc_documents.specs.Hovers.{is_within, has_position, flow_text, told_reason, ruled, said_after, code_block}
-use Rattle.pc_documents.specs.Hovers.{hover_text}
+use Rattle.pc_documents.specs.Hovers.{has_position, flow_text, told_reason, ruled, said_after, code_block}
+use Rattle.pc_documents.specs.Hovers.{with_declaration, hover_text}
 use Rattle.pc_documents.specs.Said.{texts_of, told_by, said_by, SayTheSame}
+use Rattle.pc_documents.specs.Within.{is_within}
 
 -- a finding, the texts of the two types of its flow, and the sentence and the places of its detail
 abbrev Said : Type 0
@@ -123,13 +124,15 @@ all_told encoding text position (item ∷ items) told =
       | false ↦ all_told encoding text position items told
     ]
 
-pub same_hovers : (agreed : Agreed) (text : List ℕ) (position : Position) (type : Option (List ℕ)) (one other : CheckOutcome)
-    → SayTheSame one other → hover_text agreed text one type position ≡ hover_text agreed text other type position
-same_hovers agreed text position type (Items items) (Items others) same =
-    all_told agreed.encoding text position items.items (code_block type)
-    ∙ (ap (λ said. fold told_after (code_block type) (filter (is_at agreed.encoding text position) said)) same
-    ∙ sym (all_told agreed.encoding text position others.items (code_block type)))
-same_hovers agreed text position type (Items items) (Refused refusal) same = absurd same
-same_hovers agreed text position type (Refused refusal) (Items items) same = absurd same
-same_hovers agreed text position type (Refused refusal) (Refused other) same =
-    ap (λ r. hover_text agreed text (Refused r) type position) same
+pub same_hovers : (agreed : Agreed) (text : List ℕ) (position : Position) (type declaration : Option (List ℕ))
+    (one other : CheckOutcome) → SayTheSame one other
+    → hover_text agreed text one type declaration position ≡ hover_text agreed text other type declaration position
+same_hovers agreed text position type declaration (Items items) (Items others) same =
+    let first : List ℕ = with_declaration (code_block type) declaration in
+    all_told agreed.encoding text position items.items first
+    ∙ (ap (λ said. fold told_after first (filter (is_at agreed.encoding text position) said)) same
+    ∙ sym (all_told agreed.encoding text position others.items first))
+same_hovers agreed text position type declaration (Items items) (Refused refusal) same = absurd same
+same_hovers agreed text position type declaration (Refused refusal) (Items items) same = absurd same
+same_hovers agreed text position type declaration (Refused refusal) (Refused other) same =
+    ap (λ r. hover_text agreed text (Refused r) type declaration position) same

@@ -10,14 +10,14 @@ use Rattle.pc_bindings.specs.Bindings.{binding_of}
 use Rattle.pc_position.specs.declared.positions.Encoding.{Encoding}
 use Rattle.pc_position.specs.declared.positions.Position.{Position}
 use Rattle.pc_documents.specs.Diagnostics.{location_of, position_at, range_data}
-use Rattle.pc_documents.specs.Hovers.{is_within}
 use Rattle.pc_documents.specs.Symbols.{AreOfRefusal}
+use Rattle.pc_documents.specs.Within.{is_within}
 
--- where a name stands in the document with this address
+-- the location of a name in the document with this address
 abbrev pub location_data : Encoding → List ℕ → List ℕ → Name → Data
 location_data encoding text uri n = location_of uri (range_data encoding text n.place.start n.place.end)
 
--- where a name stands, if there is one
+-- the location of a name, if there is one
 abbrev pub located : Encoding → List ℕ → List ℕ → Option Name → List Data
 located encoding text uri None = []
 located encoding text uri (Some n) = location_data encoding text uri n ∷ []

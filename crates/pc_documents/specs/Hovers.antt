@@ -1,5 +1,5 @@
 -- Hover texts: explanations of the findings at a position, in Markdown. Own rule of the server.
-use Rattle.std.specs.Prelude.{◌≡◌, ℕ, ◌==◌, ◌&&◌, ◌||◌, Bool, not, nat_lt, List, [], ◌∷◌, ◌++◌, codes, filter, fold}
+use Rattle.std.specs.Prelude.{◌≡◌, ℕ, ◌==◌, Bool, List, [], ◌∷◌, ◌++◌, codes, filter, fold}
 use Rattle.std.specs.Prelude.{string_bytes, true, false, Option, None, Some, if◌then◌else◌}
 use Rattle.pc_source.specs.declared.fault.Refusal.{Refusal}
 use Rattle.pc_source.specs.Refusals.{code_text}
@@ -16,16 +16,9 @@ use Rattle.pc_documents.specs.declared.checker.ReportedFinding.{ReportedFinding}
 use Rattle.pc_documents.specs.declared.checker.ToldDetail.{ToldDetail}
 use Rattle.pc_documents.specs.Agreed.{Agreed}
 use Rattle.pc_documents.specs.CheckerAnswers.{CheckerAnswer, outcome, type_shown}
+use Rattle.pc_documents.specs.Declarations.{IsDeclarationAt}
 use Rattle.pc_documents.specs.Diagnostics.{position_at, start_of}
-
--- a position is before another
-abbrev pub is_before : Position → Position → Bool
-is_before first other =
-    nat_lt first.line other.line || ((first.line == other.line) && nat_lt first.character other.character)
-
--- a position is between two others, or equal to one of them
-abbrev pub is_within : Position → Position → Position → Bool
-is_within start position end = not (is_before position start) && not (is_before end position)
+use Rattle.pc_documents.specs.Within.{is_within}
 
 -- the place of a finding covers the position
 abbrev pub has_position : Encoding → List ℕ → Position → ReportedFinding → Bool
@@ -64,18 +57,30 @@ ruled (byte ∷ bytes) = (byte ∷ bytes) ++ codes "\n\n---\n\n"
 abbrev pub said_after : List ℕ → ReportedFinding → List ℕ
 said_after told item = ruled told ++ item_text item
 
--- the type at a position, as code in Markdown
+-- a type or a line of a module, as code in Markdown
 abbrev pub code_block : Option (List ℕ) → List ℕ
 code_block None = []
-code_block (Some type) = codes "```python\n" ++ (type ++ codes "\n```")
+code_block (Some code) = codes "```python\n" ++ (code ++ codes "\n```")
 
--- the hover text at a position: the type there, and the explanation of each finding whose place covers it, in order; or
--- the explanation of the refusal on the line of its character
-abbrev pub hover_text : Agreed → List ℕ → CheckOutcome → Option (List ℕ) → Position → List ℕ
-hover_text agreed text (Items items) type position =
-    fold said_after (code_block type) (filter (has_position agreed.encoding text position) items.items)
-hover_text agreed text (Refused refusal) type position =
+-- a hover text, followed by a declaration as code in Markdown, if there is one
+abbrev pub with_declaration : List ℕ → Option (List ℕ) → List ℕ
+with_declaration told None = told
+with_declaration told (Some line) = ruled told ++ code_block (Some line)
+
+-- the hover text at a position: the type there, the declaration of the name there, and the explanation of each finding
+-- whose place covers it, in order; or the explanation of the refusal on the line of its character
+abbrev pub hover_text : Agreed → List ℕ → CheckOutcome → Option (List ℕ) → Option (List ℕ) → Position → List ℕ
+hover_text agreed text (Items items) type declaration position =
+    fold said_after (with_declaration (code_block type) declaration)
+    (filter (has_position agreed.encoding text position) items.items)
+hover_text agreed text (Refused refusal) type declaration position =
     if line_at text (start_of text refusal.byte) == position.line then refusal_text refusal else []
+
+-- a hover text, followed by the declaration at a position of a text
+pub record IsDeclarationSaid (encoding : Encoding) (text : List ℕ) (position : Position) (before told : List ℕ) : Type 0 where
+  pub declaration : Option (List ℕ)
+  pub declares_it : IsDeclarationAt encoding text position declaration
+  pub are : told ≡ with_declaration before declaration
 
 module _ (answers : List ℕ → CheckerAnswer → Type 0) where
   -- the type that is shown at a byte of a text, none without a byte
@@ -89,13 +94,16 @@ module _ (answers : List ℕ → CheckerAnswer → Type 0) where
     pub is_there : IsByteAt encoding text position byte
     pub shown : IsShownAtByte text byte type
 
-  -- the hover text at a position, given the findings of the text and the type shown at the position
+  -- the hover text at a position, given the findings of the text, the type shown at the position and the declaration of
+  -- the name there
   pub record IsSaidOf (text : List ℕ) (position : Position) (agreed : Agreed) (told : List ℕ) : Type 0 where
     pub found : CheckOutcome
     pub finds_it : answers text (outcome found)
     pub type : Option (List ℕ)
     pub shows_it : IsShownAt agreed.encoding text position type
-    pub are : told ≡ hover_text agreed text found type position
+    pub declaration : Option (List ℕ)
+    pub declares_it : IsDeclarationAt agreed.encoding text position declaration
+    pub are : told ≡ hover_text agreed text found type declaration position
 
   -- the hover text at a position of a text, empty if the text is not known
   abbrev pub IsToldOf : Option (List ℕ) → Position → Agreed → List ℕ → Type 0

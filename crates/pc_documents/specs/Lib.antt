@@ -2,9 +2,11 @@ pub mod Agreed
 pub mod Anchors
 pub mod Checked
 pub mod CheckerAnswers
+pub mod Declarations
 pub mod Definitions
 pub mod Diagnostics
 pub mod Documents
 pub mod Hovers
 pub mod Said
 pub mod Symbols
+pub mod Within

@@ -11,9 +11,9 @@ ghost use Rattle.pc_position.specs.Positions.{IsPositionOf};
 ghost use Rattle.pc_documents.specs.Definitions.{location_data, located, is_at, definitions_among};
 ghost use Rattle.pc_documents.specs.Definitions.{definitions_in, AreDefinitions, AreDefinitionsAs};
 
-use crate::diagnostics::{ends_of, range_value};
 use crate::documents::Document;
 use crate::hover::is_within;
+use crate::ranges::{ends_of, range_value};
 use crate::related::location_value;
 use crate::settings::Settings;
 use pc_bindings::{Mention, binding_of, mentions};
@@ -67,7 +67,7 @@ fn add_location(
 }
 
 /// Returns whether the place of a name covers a position, and the mark of its start. Counts from the mark `known`.
-fn is_at(
+pub(crate) fn is_at(
     text: &[u8],
     encoding: Encoding,
     known: Mark,

@@ -3,12 +3,12 @@
 ghost use Rattle.std.specs.Prelude.{◌≡◌, ℕ, List, Option, Some, OnOk, IfOk, string_bytes, fold, filter};
 ghost use Rattle.pc_position.specs.Positions.{IsPositionOf};
 ghost use Rattle.pc_documents.specs.Agreed.{agreed_of};
-ghost use Rattle.pc_documents.specs.Hovers.{is_before, is_within, has_position, flow_text, told_reason, item_text};
-ghost use Rattle.pc_documents.specs.Hovers.{refusal_text};
-ghost use Rattle.pc_documents.specs.Hovers.{ruled, said_after, code_block, hover_text};
+ghost use Rattle.pc_documents.specs.Hovers.{has_position, flow_text, told_reason, item_text, refusal_text};
+ghost use Rattle.pc_documents.specs.Hovers.{ruled, said_after, code_block, with_declaration, hover_text};
+ghost use Rattle.pc_documents.specs.Within.{is_before, is_within};
 
 use crate::checker::{CheckOutcome, FlowTypes, ReportedFinding};
-use crate::diagnostics::{ends_of, start_of};
+use crate::ranges::{ends_of, start_of};
 use crate::settings::Settings;
 use pc_code_texts::{meaning, mending, refusal_meaning, refusal_mending, refusal_title};
 use pc_position::{Encoding, Mark, Position, mark_after};
@@ -83,7 +83,7 @@ fn refusal_text(alloc: Global, refusal: Refusal) -> Result<String, AllocError>
 }
 
 /// Appends a horizontal rule, unless the text is empty.
-fn add_rule(told: &mut String) -> Result<(), AllocError>
+pub(crate) fn add_rule(told: &mut String) -> Result<(), AllocError>
     ensures { OnOk result (string_bytes told.new ≡ ruled (string_bytes told.old)) }
 {
     if told.is_empty() {
@@ -118,11 +118,11 @@ fn has_position(
     (is_within(start.position, position, end.position), start)
 }
 
-/// Returns a type as code in Markdown.
-pub(crate) fn code_block(alloc: Global, ty: &str) -> Result<String, AllocError>
-    ensures { IfOk result (λ s. string_bytes s ≡ code_block (Some ty.now)) }
+/// Returns a type or a line of a module as code in Markdown.
+pub(crate) fn code_block(alloc: Global, code: &str) -> Result<String, AllocError>
+    ensures { IfOk result (λ s. string_bytes s ≡ code_block (Some code.now)) }
 {
-    format!(in alloc; "```python\n{ty}\n```")
+    format!(in alloc; "```python\n{code}\n```")
 }
 
 /// Appends the explanations of the findings at a position, in order.
@@ -148,8 +148,8 @@ fn add_items(
     Ok(())
 }
 
-/// Returns the hover text at a position in Markdown, given the text of the type there; empty if there is neither a type
-/// nor a finding.
+/// Returns the hover text at a position in Markdown, given the text of the type and of the declaration there; empty if
+/// there is none of them and no finding.
 pub(crate) fn hover_text(
     alloc: Global,
     settings: &Settings,
@@ -158,8 +158,9 @@ pub(crate) fn hover_text(
     said: String,
     position: Position,
 ) -> Result<String, AllocError>
-    ensures { (type : Option (List ℕ)) → string_bytes said ≡ code_block type → IfOk result
-        (λ s. string_bytes s ≡ hover_text (agreed_of settings.now) text.now found.now type position) }
+    ensures { IfOk result (λ s. (type declaration : Option (List ℕ))
+        → string_bytes said ≡ with_declaration (code_block type) declaration
+        → string_bytes s ≡ hover_text (agreed_of settings.now) text.now found.now type declaration position) }
 {
     match found {
         CheckOutcome::Items(items) => {

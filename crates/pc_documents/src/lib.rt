@@ -3,10 +3,12 @@
 
 mod anchors;
 mod checker;
+mod declarations;
 mod definitions;
 mod diagnostics;
 mod documents;
 mod hover;
+mod ranges;
 mod related;
 mod settings;
 mod symbols;

@@ -7,7 +7,7 @@ ghost use Rattle.pc_documents.specs.Agreed.{agreed_of};
 ghost use Rattle.pc_documents.specs.Diagnostics.{location_of, related_entry, place_data, related_data};
 
 use crate::checker::ToldDetail;
-use crate::diagnostics::{ends_of, range_value};
+use crate::ranges::{ends_of, range_value};
 use crate::settings::Settings;
 use pc_position::{Encoding, Mark};
 use pc_source::Place;

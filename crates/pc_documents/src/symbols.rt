@@ -8,8 +8,8 @@ ghost use Rattle.pc_documents.specs.Symbols.{named_data, symbol_data, kind_of_me
 ghost use Rattle.pc_documents.specs.Symbols.{members_of_item, member_data, shown_member, shown_item};
 ghost use Rattle.pc_documents.specs.Symbols.{AreSymbols, AreSymbolsAs};
 
-use crate::diagnostics::range_value;
 use crate::documents::Document;
+use crate::ranges::range_value;
 use crate::settings::Settings;
 use pc_front::read_module;
 use pc_position::{Encoding, Mark, Position, mark_after};

@@ -5,6 +5,7 @@ ghost use Rattle.pc_documents.specs.Agreed.{agreed_of};
 ghost use Rattle.pc_documents.specs.Hovers.{IsTypeSaid, IsToldOf, IsToldAs};
 
 use crate::checker::Checker;
+use crate::declarations::add_declaration;
 use crate::documents::Document;
 use crate::hover::{code_block, hover_text};
 use crate::settings::Settings;
@@ -48,8 +49,10 @@ fn said_of<C: Checker>(
     };
     let text = text.as_str();
     let found = checker.find(alloc, text)?;
-    let said = type_of(checker, alloc, settings.encoding, text, position)?;
-    Ok(hover_text(alloc, settings, text.as_bytes(), &found, said, position)?)
+    let mut said = type_of(checker, alloc, settings.encoding, text, position)?;
+    let bytes = text.as_bytes();
+    add_declaration(alloc, &mut said, settings.encoding, bytes, position)?;
+    Ok(hover_text(alloc, settings, bytes, &found, said, position)?)
 }
 
 /// Returns the hover text at a position of a document; empty if it is not Python.

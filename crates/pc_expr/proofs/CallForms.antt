@@ -20,7 +20,7 @@ use Rattle.pc_rules.specs.Computed.Standing.{Standing, items_in, label_in, parts
 use Rattle.pc_rules.specs.Computed.Standing.{keywords_find}
 use Rattle.pc_calls.specs.JudgedCalls.{second_code_of}
 use Rattle.pc_expr.specs.Typing.{callee_in, callee_finds, second_is_early}
-use Rattle.pc_expr.proofs.Forms.{callee_whole, judge_call}
+use Rattle.pc_expr.proofs.Forms.{callee_whole, type_whole_call}
 use Rattle.pc_expr.proofs.Typed.{two_found}
 
 -- the code at the second argument, by whether that one stands too early
@@ -84,7 +84,7 @@ module _ (k : Standing) (want : Option Tree) (p : Place) (c : Expr) (args : Expr
       rule_there
       ∙ ap (λ (os : List CallOffer). whole_call_label k.context k.env (callee_in k (arguments_given args kws) c).rule os
       args (types_in k (positional_seat os) args)) offers_there
-      ∙ sym (judge_call k want p c args kws)
+      ∙ sym (type_whole_call k want p c args kws)
 
   pub call_parts_found : (old callee_new callee_last then_arguments then_keywords last : List Note) (noted : List Note)
       (is_test early : Test) →

@@ -19,7 +19,7 @@ use Rattle.pc_rules.specs.Computed.Findings.{brief, flows_at}
 use Rattle.pc_rules.specs.declared.label.Label.{Label as RustLabel}
 use Rattle.pc_rules.specs.Computed.Standing.{Standing, label_with, label_in, finds_in, keys_in, value_types_in, entries_find}
 use Rattle.pc_rules.specs.Computed.Standing.{keywords_find}
-use Rattle.pc_rules.proofs.Checkers.{in_turn}
+use Rattle.pc_rules.proofs.TypingStates.{in_turn}
 use Rattle.pc_expr.proofs.Forms.{keys_none, keys_more, values_none, values_more, entries_none, entries_more}
 use Rattle.pc_expr.proofs.Forms.{keywords_none, keywords_more}
 use Rattle.pc_expr.proofs.Typed.{type_is, two_found}

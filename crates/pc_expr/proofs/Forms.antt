@@ -115,10 +115,10 @@ module _ (k : Standing) (want : Option Tree) where
   parts_dict p es = refl
 
   -- ---- operators of one operand
-  pub label_negative : (p : Place) (e : Expr) → label_in k want (negative p e) ≡ offers_label k.context.bases
+  pub negative_label : (p : Place) (e : Expr) → label_in k want (negative p e) ≡ offers_label k.context.bases
       (map negative_member (members (label_in k None e).type))
   unfolding label_in
-  label_negative p e = refl
+  negative_label p e = refl
 
   pub parts_negative : (p : Place) (e : Expr) → parts_find k want (negative p e) ≡ finds_in k None e
   unfolding parts_find finds_in
@@ -148,10 +148,10 @@ module _ (k : Standing) (want : Option Tree) where
   unfolding parts_find finds_in
   parts_is_not_none p e = refl
 
-  pub label_attribute : (p : Place) (e : Expr) (field : Name) → label_in k want (attribute p e field) ≡ offers_label
+  pub attribute_label : (p : Place) (e : Expr) (field : Name) → label_in k want (attribute p e field) ≡ offers_label
       k.context.bases (map (attribute_member k.context.classes field.text) (members (label_in k None e).type))
   unfolding label_in
-  label_attribute p e field = refl
+  attribute_label p e field = refl
 
   pub parts_attribute : (p : Place) (e : Expr) (field : Name) → parts_find k want (attribute p e field)
       ≡ finds_in k None e
@@ -202,10 +202,10 @@ module _ (k : Standing) (want : Option Tree) where
   unfolding parts_find finds_in
   parts_disjunction p l r = refl
 
-  pub label_index : (p : Place) (e i : Expr) → label_in k want (index p e i) ≡ offers_label k.context.bases
+  pub type_index : (p : Place) (e i : Expr) → label_in k want (index p e i) ≡ offers_label k.context.bases
       (map (index_member k.context.bases (int_literal i)) (members (label_in k None e).type))
   unfolding label_in
-  label_index p e i = refl
+  type_index p e i = refl
 
   pub parts_index : (p : Place) (e i : Expr) → parts_find k want (index p e i) ≡ finds_in k None e
       ++ (finds_in k None i ++ flows_at (place_of i) (flows_of k.context.bases (label_in k None i)
@@ -409,9 +409,9 @@ module _ (k : Standing) (g : GivenArguments) where
       ∙ sym (ap (λ b. unnamed_callee b (label_in k None (attribute p e field))) h)
 
 module _ (k : Standing) (want : Option Tree) where
-  pub judge_call : (p : Place) (c : Expr) (args : Exprs) (kws : Keywords) → label_in k want (call p c args kws) ≡
+  pub type_whole_call : (p : Place) (c : Expr) (args : Exprs) (kws : Keywords) → label_in k want (call p c args kws) ≡
       whole_call_label k.context k.env (callee_in k (arguments_given args kws) c).rule
       (callee_in k (arguments_given args kws) c).offers args
       (types_in k (positional_seat (callee_in k (arguments_given args kws) c).offers) args)
   unfolding label_in callee_in types_in
-  judge_call p c args kws = refl
+  type_whole_call p c args kws = refl

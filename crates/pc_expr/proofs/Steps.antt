@@ -17,7 +17,7 @@ use Rattle.pc_rules.specs.Calls.{Seat}
 use Rattle.pc_rules.specs.Computed.Expressions.{flows_of}
 use Rattle.pc_rules.specs.Computed.Findings.{brief, once, flows_at}
 use Rattle.pc_rules.specs.declared.label.Label.{Label as RustLabel}
-use Rattle.pc_rules.proofs.Checkers.{in_turn}
+use Rattle.pc_rules.proofs.TypingStates.{in_turn}
 use Rattle.pc_expr.proofs.Typed.{type_is}
 use Rattle.pc_rules.specs.Computed.Standing.{Standing, label_with, label_in, finds_in, types_in, items_find}
 use Rattle.pc_expr.specs.Typing.{second_is_early}

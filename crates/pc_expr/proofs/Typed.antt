@@ -32,9 +32,9 @@ use Rattle.pc_rules.specs.Computed.Findings.{own_at, once, brief, note_of_type, 
 use Rattle.pc_rules.specs.Computed.Standing.{Standing, narrowed_standing, label_in, finds_in, parts_find, types_in}
 use Rattle.pc_rules.specs.Computed.Standing.{items_find, keys_in, value_types_in, entries_find, label_with}
 use Rattle.pc_rules.specs.declared.label.Label.{Label as RustLabel}
-use Rattle.pc_expr.proofs.Forms.{finds_whole, label_negative, label_attribute, type_binary, label_compare}
+use Rattle.pc_expr.proofs.Forms.{finds_whole, negative_label, attribute_label, type_binary, label_compare}
 use Rattle.pc_expr.proofs.Forms.{parts_compare, label_conjunction, label_disjunction, parts_conjunction}
-use Rattle.pc_expr.proofs.Forms.{parts_disjunction, parts_binary, label_index, parts_index, label_tuple, parts_tuple}
+use Rattle.pc_expr.proofs.Forms.{parts_disjunction, parts_binary, type_index, parts_index, label_tuple, parts_tuple}
 use Rattle.pc_expr.proofs.Forms.{expected_list_label, parts_list, expected_dict_label, parts_dict}
 
 module _ {T : Type 0} (tree : T → Tree) (l : RustLabel T) (m : Label) (is : label_with tree l ≡ brief m) where
@@ -73,7 +73,7 @@ module _ {T : Type 0} (tree : T → Tree) (k : Standing) (want : Option Tree) wh
   pub negative_is : (p : Place) (e : Expr) (l : RustLabel T) → label_with tree l ≡ brief (label_in k None e)
       → offers_label k.context.bases (map negative_member (members (tree l.ty))) ≡ label_in k want (negative p e)
   negative_is p e l is = ap (λ t. offers_label k.context.bases (map negative_member (members t)))
-      (type_is tree l (label_in k None e) is) ∙ sym (label_negative k want p e)
+      (type_is tree l (label_in k None e) is) ∙ sym (negative_label k want p e)
 
   pub attribute_is : (p : Place) (e : Expr) (field : Name) (l : RustLabel T)
       → label_with tree l ≡ brief (label_in k None e) → offers_label k.context.bases
@@ -81,7 +81,7 @@ module _ {T : Type 0} (tree : T → Tree) (k : Standing) (want : Option Tree) wh
       (attribute p e field)
   attribute_is p e field l is = ap (λ t. offers_label k.context.bases
       (map (attribute_member k.context.classes field.text) (members t))) (type_is tree l (label_in k None e) is)
-      ∙ sym (label_attribute k want p e field)
+      ∙ sym (attribute_label k want p e field)
 
   module _ (p : Place) (a b : Expr) (l r : RustLabel T) (left_is : label_with tree l ≡ brief (label_in k None a)) where
     pub binary_is : (o : BinaryOperator) → label_with tree r ≡ brief (label_in k None b)
@@ -116,7 +116,7 @@ module _ {T : Type 0} (tree : T → Tree) (k : Standing) (want : Option Tree) wh
     pub index_is : offers_label k.context.bases (map (index_member k.context.bases (int_literal b))
         (members (tree l.ty))) ≡ label_in k want (index p a b)
     index_is = ap (λ t. offers_label k.context.bases (map (index_member k.context.bases (int_literal b)) (members t)))
-        (type_is tree l (label_in k None a) left_is) ∙ sym (label_index k want p a b)
+        (type_is tree l (label_in k None a) left_is) ∙ sym (type_index k want p a b)
 
     pub index_found : (old new next last : List Note) → new ≡ old ++ finds_in k None a → next ≡ new ++ finds_in k None b
         → last ≡ next ++ flows_at (place_of b) (flows_of k.context.bases (label_in k None b)

@@ -1,5 +1,5 @@
 //! The label of a call, and callees that are no function, class or method.
-#![tactic(auto, using(pc_rules::proofs::Checkers::goes_further))]
+#![tactic(auto, using(pc_rules::proofs::TypingStates::goes_further))]
 
 ghost use Rattle.std.specs.Prelude.{◌≡◌, ◌++◌, true, length, map, All, IfOk, OnOk};
 ghost use Rattle.pc_source.specs.declared.place.Place.{Place};
@@ -17,7 +17,7 @@ ghost use Rattle.pc_rules.specs.Computed.Findings.{brief, notes_of_code, shows};
 ghost use Rattle.pc_rules.specs.Computed.Standing.{label_with, context_with};
 ghost use Rattle.pc_calls.specs.JudgedCalls.{offer_called, rule_of, second_code_of, HasCallOffer, IsCallee};
 ghost use Rattle.pc_expr.specs.Typing.{unnamed_callee};
-ghost use Rattle.pc_rules.specs.Computed.Checkers.{AddsNotes, CheckerKept, IsLabel};
+ghost use Rattle.pc_rules.specs.Computed.TypingStates.{AddsNotes, StateKept, IsLabel};
 ghost use Rattle.pc_flow.specs.Naming.{meanings};
 
 use crate::items::Typed;
@@ -37,15 +37,15 @@ use std::alloc::Global;
 pub(crate) fn callee_of_other<'t, S: TypeStore>(
     store: &mut S,
     alloc: Global,
-    setting: &ExprContext<'t, S::Ty>,
+    context: &ExprContext<'t, S::Ty>,
     label: Label<S::Ty>,
 ) -> Result<TypedCallee<'t, S::Ty>, OutOfMemory>
     requires { S.has store.old label.ty }
     ensures callee { (m : LabelOf) → label_with S.tree label ≡ brief m
-        → IfOk result (λ c. IsCallee S.has S.tree store.new c (unnamed_callee setting.now.in_body m)) }
+        → IfOk result (λ c. IsCallee S.has S.tree store.new c (unnamed_callee context.now.in_body m)) }
     ensures kept { KeepsTypes S.has store.old store.new }
 {
-    if setting.in_body {
+    if context.in_body {
         return callee_of_value(store, alloc, label);
     }
     callee_in_error(store, alloc, Code::E03)
@@ -73,33 +73,33 @@ fn find_code(place: Place, code: Option<Code>, found: &mut Notes) -> Result<(), 
 
 /// Returns the label of a call, given the types of its arguments. Appends the finding at its second argument, if there
 /// is one. Language Reference 6.3.4 "Calls".
-pub(crate) fn judge_call<S: TypeStore>(
-    checker: &mut TypingState<'_, S>,
-    setting: &ExprContext<'_, S::Ty>,
+pub(crate) fn type_whole_call<S: TypeStore>(
+    state: &mut TypingState<'_, S>,
+    context: &ExprContext<'_, S::Ty>,
     env: &Env<S::Ty>,
     place: Place,
     callee: &TypedCallee<'_, S::Ty>,
     arguments: &[Expr],
     typed: &Typed<S::Ty>,
 ) -> Result<Label<S::Ty>, OutOfMemory>
-    requires classes { HasEntries (S.has checker.old.store.now) setting.now.globals.now.classes.now }
-    requires env { HasEach (S.has checker.old.store.now) env.now }
-    requires offers { All (HasCallOffer (S.has checker.old.store.now)) callee.now.offers.items }
-    requires types { All (S.has checker.old.store.now) typed.now.types.items }
+    requires classes { HasEntries (S.has state.old.store.now) context.now.globals.now.classes.now }
+    requires env { HasEach (S.has state.old.store.now) env.now }
+    requires offers { All (HasCallOffer (S.has state.old.store.now)) callee.now.offers.items }
+    requires types { All (S.has state.old.store.now) typed.now.types.items }
     ensures value { IfOk result
-        (λ l. IsLabel S.TypeStore checker.new l
-        (whole_call_label (context_with S.tree setting.now) (env_of S.tree env.now) (rule_of callee.now.rule)
+        (λ l. IsLabel S.TypeStore state.new l
+        (whole_call_label (context_with S.tree context.now) (env_of S.tree env.now) (rule_of callee.now.rule)
         (map (offer_called S.tree) callee.now.offers.items) (exprs_of_list arguments.now)
         (map S.tree typed.now.types.items))) }
-    ensures found { OnOk result (AddsNotes checker.old checker.new
+    ensures found { OnOk result (AddsNotes state.old state.new
         (notes_of_code (second_place (exprs_of_list arguments.now) place)
-        (second_code_of (meanings setting.now.names.now) (rule_of callee.now.rule)
+        (second_code_of (meanings context.now.names.now) (rule_of callee.now.rule)
         (exprs_of_list arguments.now) typed.now.early))) }
-    ensures goes_on { CheckerKept S.TypeStore checker.old checker.new }
+    ensures goes_on { StateKept S.TypeStore state.old state.new }
 {
-    let code = second_code(setting.names, callee.rule, arguments, typed.early);
-    find_code(second_place(arguments, place), code, checker.found)?;
-    whole_call_label(checker, setting, env, callee, arguments, &typed.types)
+    let code = second_code(context.names, callee.rule, arguments, typed.early);
+    find_code(second_place(arguments, place), code, state.found)?;
+    whole_call_label(state, context, env, callee, arguments, &typed.types)
 }
 
 /// Returns whether a call is an instance test: `isinstance` with two positional arguments and no other.
@@ -116,7 +116,7 @@ pub(crate) fn shows(callee: &Expr) -> bool
     ensures { result ≡ shows (expr_of callee.now) }
 {
     match callee {
-        Expr::Name(_) | Expr::Attribute(_, _, _) => false,
+        Expr::Name(_) | Expr::Attribute { .. } => false,
         Expr::Int(_, _)
         | Expr::Str(_, _)
         | Expr::True(_)
@@ -127,13 +127,13 @@ pub(crate) fn shows(callee: &Expr) -> bool
         | Expr::Dict(_, _)
         | Expr::Negative(_, _)
         | Expr::Not(_, _)
-        | Expr::Binary(_, _, _, _)
-        | Expr::Compare(_, _, _, _)
+        | Expr::Binary { .. }
+        | Expr::Compare { .. }
         | Expr::IsNone(_, _)
         | Expr::IsNotNone(_, _)
-        | Expr::And(_, _, _)
-        | Expr::Or(_, _, _)
-        | Expr::Index(_, _, _)
-        | Expr::Call(_, _, _, _) => true,
+        | Expr::And { .. }
+        | Expr::Or { .. }
+        | Expr::Index { .. }
+        | Expr::Call { .. } => true,
     }
 }

@@ -1,5 +1,5 @@
 //! The labels of calls, and the findings in their callees and arguments.
-#![tactic(auto, using(pc_rules::proofs::Kept::stands_further, pc_rules::proofs::Checkers::goes_further))]
+#![tactic(auto, using(pc_rules::proofs::Kept::stands_further, pc_rules::proofs::TypingStates::goes_further))]
 
 ghost use Rattle.std.specs.Prelude.{◌≡◌, IfOk, OnOk, None, [], true, map, length, All, Option};
 ghost use Rattle.pc_tree.specs.Tree.{expr_of};
@@ -11,11 +11,11 @@ ghost use Rattle.pc_calls.specs.JudgedCalls.{given_with, offer_called, HasCallOf
 ghost use Rattle.pc_expr.specs.Typing.{callee_in};
 ghost use Rattle.pc_expr.specs.Internal.Seats.{AreTyped};
 ghost use Rattle.pc_expr.specs.Internal.Forms.{IsCall};
-ghost use Rattle.pc_rules.specs.Computed.Checkers.{AddsNotes, CheckerKept, IsLabel, Stands};
+ghost use Rattle.pc_rules.specs.Computed.TypingStates.{AddsNotes, StateKept, IsLabel, HoldsAll};
 
-use crate::call_labels::{callee_of_other, is_test, judge_call, shows};
+use crate::call_labels::{callee_of_other, is_test, shows, type_whole_call};
 use crate::items::{Typed, is_second_early};
-use crate::typing::{check_expr, label_expr, type_seated};
+use crate::typing::{check_expr, type_expr, type_seated};
 use indexmap::IndexSet;
 use pc_calls::given::given;
 use pc_calls::{
@@ -32,38 +32,43 @@ use pc_types::TypeStore;
 /// "Calls".
 #[cycle(typing)]
 pub(crate) fn type_call<S: TypeStore>(
-    checker: &mut TypingState<'_, S>,
-    setting: &ExprContext<'_, S::Ty>,
+    state: &mut TypingState<'_, S>,
+    context: &ExprContext<'_, S::Ty>,
     env: &Env<S::Ty>,
     e: &Expr,
 ) -> Result<Label<S::Ty>, OutOfMemory>
-    requires given { Stands S.TypeStore checker.old setting.now env.now }
+    requires given { HoldsAll S.TypeStore state.old context.now env.now }
     requires form { IsCall e.now }
     ensures labelled { (expected : Option Tree) → IfOk result
-        (λ l. IsLabel S.TypeStore checker.new l
-        (label_in (standing_of S.tree setting.now env.now) expected (expr_of e.now))) }
-    ensures found { (expected : Option Tree) → OnOk result (AddsNotes checker.old checker.new
-        (parts_find (standing_of S.tree setting.now env.now) expected (expr_of e.now))) }
-    ensures goes_on { CheckerKept S.TypeStore checker.old checker.new }
+        (λ l. IsLabel S.TypeStore state.new l
+        (label_in (standing_of S.tree context.now env.now) expected (expr_of e.now))) }
+    ensures found { (expected : Option Tree) → OnOk result (AddsNotes state.old state.new
+        (parts_find (standing_of S.tree context.now env.now) expected (expr_of e.now))) }
+    ensures goes_on { StateKept S.TypeStore state.old state.new }
 {
     match e {
-        Expr::Call(place, callee, arguments, by_name) => {
-            let keys = setting.globals.outline.tree.keys;
-            let given = given(checker.alloc, keys, arguments, by_name)?;
-            let called = type_callee(checker, setting, env, &given, callee)?;
+        Expr::Call {
+            place,
+            callee,
+            arguments,
+            keywords: by_name,
+        } => {
+            let keys = context.globals.outline.tree.keys;
+            let given = given(state.alloc, keys, arguments, by_name)?;
+            let called = type_callee(state, context, env, &given, callee)?;
             note_label(
-                checker.store,
-                checker.alloc,
-                setting.globals.keeps,
+                state.store,
+                state.alloc,
+                context.globals.keeps,
                 shows(callee),
                 callee.place(),
                 &called.label,
-                checker.found,
+                state.found,
             )?;
             let is_test = is_test(callee, arguments, by_name);
-            let typed = type_arguments(checker, setting, env, is_test, &called.offers, arguments)?;
-            type_keywords(checker, setting, env, &called.offers, by_name)?;
-            judge_call(checker, setting, env, *place, &called, arguments, &typed)
+            let typed = type_arguments(state, context, env, is_test, &called.offers, arguments)?;
+            type_keywords(state, context, env, &called.offers, by_name)?;
+            type_whole_call(state, context, env, *place, &called, arguments, &typed)
         }
         // `form` leaves no other form; the recursion ends by the size of the whole expression.
         _ => unreachable!(),
@@ -74,36 +79,33 @@ pub(crate) fn type_call<S: TypeStore>(
 /// initializer a callee other than a name is in error.
 #[cycle(typing)]
 fn type_callee<'t, S: TypeStore>(
-    checker: &mut TypingState<'_, S>,
-    setting: &ExprContext<'t, S::Ty>,
+    state: &mut TypingState<'_, S>,
+    context: &ExprContext<'t, S::Ty>,
     env: &Env<S::Ty>,
     given: &Given,
     callee: &Expr,
 ) -> Result<TypedCallee<'t, S::Ty>, OutOfMemory>
-    requires given { Stands S.TypeStore checker.old setting.now env.now }
+    requires given { HoldsAll S.TypeStore state.old context.now env.now }
     ensures called { IfOk result
-        (λ c. IsCallee S.has S.tree checker.new.store.now c
-        (callee_in (standing_of S.tree setting.now env.now) (given_with given.now) (expr_of callee.now))) }
-    ensures found { OnOk result (AddsNotes checker.old checker.new
-        (parts_find (standing_of S.tree setting.now env.now) None (expr_of callee.now))) }
-    ensures goes_on { CheckerKept S.TypeStore checker.old checker.new }
+        (λ c. IsCallee S.has S.tree state.new.store.now c
+        (callee_in (standing_of S.tree context.now env.now) (given_with given.now) (expr_of callee.now))) }
+    ensures found { OnOk result (AddsNotes state.old state.new
+        (parts_find (standing_of S.tree context.now env.now) None (expr_of callee.now))) }
+    ensures goes_on { StateKept S.TypeStore state.old state.new }
 {
     match callee {
-        Expr::Name(name) => callee_of_name(checker.store, checker.alloc, setting, env, given, name),
-        Expr::Attribute(_, object, field) => {
-            if setting.in_body {
-                let label = check_expr(checker, setting, env, &None, object)?;
-                return callee_of_method(
-                    checker.store,
-                    checker.alloc,
-                    setting,
-                    given,
-                    field,
-                    &label.ty,
-                );
+        Expr::Name(name) => callee_of_name(state.store, state.alloc, context, env, given, name),
+        Expr::Attribute {
+            object,
+            name: field,
+            ..
+        } => {
+            if context.in_body {
+                let label = check_expr(state, context, env, &None, object)?;
+                return callee_of_method(state.store, state.alloc, context, given, field, &label.ty);
             }
-            let label = label_expr(checker, setting, env, &None, callee)?;
-            callee_of_other(checker.store, checker.alloc, setting, label)
+            let label = type_expr(state, context, env, &None, callee)?;
+            callee_of_other(state.store, state.alloc, context, label)
         }
         Expr::Int(_, _)
         | Expr::Str(_, _)
@@ -115,16 +117,16 @@ fn type_callee<'t, S: TypeStore>(
         | Expr::Dict(_, _)
         | Expr::Negative(_, _)
         | Expr::Not(_, _)
-        | Expr::Binary(_, _, _, _)
-        | Expr::Compare(_, _, _, _)
+        | Expr::Binary { .. }
+        | Expr::Compare { .. }
         | Expr::IsNone(_, _)
         | Expr::IsNotNone(_, _)
-        | Expr::And(_, _, _)
-        | Expr::Or(_, _, _)
-        | Expr::Index(_, _, _)
-        | Expr::Call(_, _, _, _) => {
-            let label = label_expr(checker, setting, env, &None, callee)?;
-            callee_of_other(checker.store, checker.alloc, setting, label)
+        | Expr::And { .. }
+        | Expr::Or { .. }
+        | Expr::Index { .. }
+        | Expr::Call { .. } => {
+            let label = type_expr(state, context, env, &None, callee)?;
+            callee_of_other(state.store, state.alloc, context, label)
         }
     }
 }
@@ -133,35 +135,35 @@ fn type_callee<'t, S: TypeStore>(
 /// whether the second is E03.
 #[cycle(typing)]
 fn type_tested<S: TypeStore>(
-    checker: &mut TypingState<'_, S>,
-    setting: &ExprContext<'_, S::Ty>,
+    state: &mut TypingState<'_, S>,
+    context: &ExprContext<'_, S::Ty>,
     env: &Env<S::Ty>,
     offers: &[CallOffer<'_, S::Ty>],
     arguments: &[Expr],
 ) -> Result<Typed<S::Ty>, OutOfMemory>
-    requires given { Stands S.TypeStore checker.old setting.now env.now }
-    requires offers { All (HasCallOffer (S.has checker.old.store.now)) offers.now }
+    requires given { HoldsAll S.TypeStore state.old context.now env.now }
+    requires offers { All (HasCallOffer (S.has state.old.store.now)) offers.now }
     requires two { length arguments.now ≡ 2 }
     ensures typed { IfOk result
-        (λ t. AreTyped S.has S.tree checker.new.store.now (standing_of S.tree setting.now env.now) t
+        (λ t. AreTyped S.has S.tree state.new.store.now (standing_of S.tree context.now env.now) t
         (positional_seat (map (offer_called S.tree) offers.now)) (exprs_of_list arguments.now)) }
-    ensures found { OnOk result (AddsNotes checker.old checker.new
-        (arguments_find (standing_of S.tree setting.now env.now) true
+    ensures found { OnOk result (AddsNotes state.old state.new
+        (arguments_find (standing_of S.tree context.now env.now) true
         (positional_seat (map (offer_called S.tree) offers.now)) (exprs_of_list arguments.now))) }
-    ensures goes_on { CheckerKept S.TypeStore checker.old checker.new }
+    ensures goes_on { StateKept S.TypeStore state.old state.new }
 {
-    let seat = positional_seat(checker.store, checker.alloc, offers, 0)?;
-    let tested = check_expr(checker, setting, env, &seat.want, &arguments[0])?;
-    let seat = positional_seat(checker.store, checker.alloc, offers, 1)?;
-    let mut unseen = Notes::new(checker.alloc);
+    let seat = positional_seat(state.store, state.alloc, offers, 0)?;
+    let tested = check_expr(state, context, env, &seat.want, &arguments[0])?;
+    let seat = positional_seat(state.store, state.alloc, offers, 1)?;
+    let mut unseen = Notes::new(state.alloc);
     let mut apart = TypingState {
-        store: checker.store,
-        alloc: checker.alloc,
+        store: state.store,
+        alloc: state.alloc,
         found: &mut unseen,
     };
-    let kind = check_expr(&mut apart, setting, env, &seat.want, &arguments[1])?;
+    let kind = check_expr(&mut apart, context, env, &seat.want, &arguments[1])?;
     let early = is_early(&kind.codes);
-    let mut types = Vec::new(checker.alloc);
+    let mut types = Vec::new(state.alloc);
     types.push(tested.ty)?;
     types.push(kind.ty)?;
     Ok(Typed { types, early })
@@ -171,32 +173,32 @@ fn type_tested<S: TypeStore>(
 /// instance test those in the first only. Returns their types, and whether the second is E03.
 #[cycle(typing)]
 pub(crate) fn type_arguments<S: TypeStore>(
-    checker: &mut TypingState<'_, S>,
-    setting: &ExprContext<'_, S::Ty>,
+    state: &mut TypingState<'_, S>,
+    context: &ExprContext<'_, S::Ty>,
     env: &Env<S::Ty>,
     is_test: bool,
     offers: &[CallOffer<'_, S::Ty>],
     arguments: &[Expr],
 ) -> Result<Typed<S::Ty>, OutOfMemory>
-    requires given { Stands S.TypeStore checker.old setting.now env.now }
-    requires offers { All (HasCallOffer (S.has checker.old.store.now)) offers.now }
+    requires given { HoldsAll S.TypeStore state.old context.now env.now }
+    requires offers { All (HasCallOffer (S.has state.old.store.now)) offers.now }
     requires two { is_test ≡ true → length arguments.now ≡ 2 }
     ensures typed { IfOk result
-        (λ t. AreTyped S.has S.tree checker.new.store.now (standing_of S.tree setting.now env.now) t
+        (λ t. AreTyped S.has S.tree state.new.store.now (standing_of S.tree context.now env.now) t
         (positional_seat (map (offer_called S.tree) offers.now)) (exprs_of_list arguments.now)) }
-    ensures found { OnOk result (AddsNotes checker.old checker.new
-        (arguments_find (standing_of S.tree setting.now env.now) is_test
+    ensures found { OnOk result (AddsNotes state.old state.new
+        (arguments_find (standing_of S.tree context.now env.now) is_test
         (positional_seat (map (offer_called S.tree) offers.now)) (exprs_of_list arguments.now))) }
-    ensures goes_on { CheckerKept S.TypeStore checker.old checker.new }
+    ensures goes_on { StateKept S.TypeStore state.old state.new }
 {
     if is_test {
-        return type_tested(checker, setting, env, offers, arguments);
+        return type_tested(state, context, env, offers, arguments);
     }
-    let mut types = Vec::new(checker.alloc);
+    let mut types = Vec::new(state.alloc);
     let mut early = false;
     for argument in arguments {
-        let seat = positional_seat(checker.store, checker.alloc, offers, types.len())?;
-        let label = type_seated(checker, setting, env, &seat, argument)?;
+        let seat = positional_seat(state.store, state.alloc, offers, types.len())?;
+        let label = type_seated(state, context, env, &seat, argument)?;
         early = is_second_early(types.len(), &label.codes, early);
         types.push(label.ty)?;
     }
@@ -206,29 +208,23 @@ pub(crate) fn type_arguments<S: TypeStore>(
 /// Types the arguments by name of a call with these offers. Appends the findings in them and of their flows.
 #[cycle(typing)]
 pub(crate) fn type_keywords<S: TypeStore>(
-    checker: &mut TypingState<'_, S>,
-    setting: &ExprContext<'_, S::Ty>,
+    state: &mut TypingState<'_, S>,
+    context: &ExprContext<'_, S::Ty>,
     env: &Env<S::Ty>,
     offers: &[CallOffer<'_, S::Ty>],
     by_name: &[KeywordArgument],
 ) -> Result<(), OutOfMemory>
-    requires given { Stands S.TypeStore checker.old setting.now env.now }
-    requires offers { All (HasCallOffer (S.has checker.old.store.now)) offers.now }
-    ensures found { OnOk result (AddsNotes checker.old checker.new
-        (keywords_find (standing_of S.tree setting.now env.now)
+    requires given { HoldsAll S.TypeStore state.old context.now env.now }
+    requires offers { All (HasCallOffer (S.has state.old.store.now)) offers.now }
+    ensures found { OnOk result (AddsNotes state.old state.new
+        (keywords_find (standing_of S.tree context.now env.now)
         (named_seat (map (offer_called S.tree) offers.now)) [] (keywords_of_list by_name.now))) }
-    ensures goes_on { CheckerKept S.TypeStore checker.old checker.new }
+    ensures goes_on { StateKept S.TypeStore state.old state.new }
 {
-    let mut before = IndexSet::with_hasher(checker.alloc, setting.globals.outline.tree.keys);
+    let mut before = IndexSet::with_hasher(state.alloc, context.globals.outline.tree.keys);
     for argument in by_name {
-        let seat = keyword_seat(
-            checker.store,
-            checker.alloc,
-            offers,
-            &before,
-            &argument.name,
-        )?;
-        type_seated(checker, setting, env, &seat, &argument.value)?;
+        let seat = keyword_seat(state.store, state.alloc, offers, &before, &argument.name)?;
+        type_seated(state, context, env, &seat, &argument.value)?;
         before.insert(argument.name.text.as_str())?;
     }
     Ok(())

@@ -1,7 +1,7 @@
 //! The labels of conditions, and the environments where they are true and where they are false.
 //!
 //! Each part of a chain of `and` and `or` is narrowed once, in the walk that labels it.
-#![tactic(auto, using(pc_rules::proofs::Kept::stands_further, pc_rules::proofs::Checkers::goes_further))]
+#![tactic(auto, using(pc_rules::proofs::Kept::stands_further, pc_rules::proofs::TypingStates::goes_further))]
 
 ghost use Rattle.std.specs.Prelude.{◌≡◌, ◌++◌, IfOk, OnOk, None, length};
 ghost use Rattle.pc_tree.specs.Tree.{expr_of};
@@ -13,7 +13,7 @@ ghost use Rattle.pc_flow.specs.Narrowing.{IsSimple, tested_locals};
 ghost use Rattle.pc_flow.specs.Stored.{env_of, declared_of, HasEach, GivesEnv};
 ghost use Rattle.pc_flow.specs.Ways.{way_on, way_out};
 ghost use Rattle.pc_flow.specs.WellFormed.{IsWellFormedEnv};
-ghost use Rattle.pc_rules.specs.Computed.Checkers.{AddsNotes, CheckerKept, IsLabel, Stands};
+ghost use Rattle.pc_rules.specs.Computed.TypingStates.{AddsNotes, StateKept, IsLabel, HoldsAll};
 ghost use Rattle.pc_rules.specs.Operations.{clean};
 ghost use Rattle.pc_rules.specs.Computed.Standing.{HasGivenAll, standing_of, label_in, finds_in};
 ghost use Rattle.pc_rules.specs.Computed.ModuleParents.{class_parents};
@@ -23,7 +23,7 @@ use crate::typing::check_expr;
 use pc_flow::{
     BothWays, Connective, Declarations, Env, Junction, copy_env, narrow_junction, narrow_simple,
 };
-use pc_operations::{label_bool, label_junction};
+use pc_operations::{bool_label, junction_label};
 use pc_rules::{ExprContext, Label, TypingState, note_label};
 use pc_source::OutOfMemory;
 use pc_tree::Expr;
@@ -39,7 +39,7 @@ pub struct Condition<Ty: Drop> {
 
 /// Returns the environment where the first part of a junction decides it: where that part is false for `and`, true for
 /// `or`.
-fn settling<Ty: Drop>(connective: &Connective, first: BothWays<Ty>) -> Env<Ty>
+fn short_circuit_of<Ty: Drop>(connective: &Connective, first: BothWays<Ty>) -> Env<Ty>
     ensures { result ≡ way_out connective.now first }
 {
     match connective {
@@ -51,58 +51,58 @@ fn settling<Ty: Drop>(connective: &Connective, first: BothWays<Ty>) -> Env<Ty>
 /// Combines the two parts of a junction: returns its label, and the environments where it is true and where it is
 /// false. The second part is typed where the first does not decide. Language Reference 6.11 "Boolean operations".
 fn junction_condition<S: TypeStore>(
-    checker: &mut TypingState<'_, S>,
-    setting: &ExprContext<'_, S::Ty>,
+    state: &mut TypingState<'_, S>,
+    context: &ExprContext<'_, S::Ty>,
     junction: &Junction,
     first: Condition<S::Ty>,
     second: Condition<S::Ty>,
 ) -> Result<Condition<S::Ty>, OutOfMemory>
-    requires declared { HasEach (S.has checker.old.store.now) setting.now.declared.now }
-    requires first { S.has checker.old.store.now first.label.ty }
-    requires second { S.has checker.old.store.now second.label.ty }
-    requires settled { HasEach (S.has checker.old.store.now) (way_out junction.now.connective first.ways) }
-    requires late { HasEach (S.has checker.old.store.now) (way_out junction.now.connective second.ways) }
-    requires well_formed { IsWellFormedEnv (class_parents setting.now.globals.now)
+    requires declared { HasEach (S.has state.old.store.now) context.now.declared.now }
+    requires first { S.has state.old.store.now first.label.ty }
+    requires second { S.has state.old.store.now second.label.ty }
+    requires short_circuit_env { HasEach (S.has state.old.store.now) (way_out junction.now.connective first.ways) }
+    requires late { HasEach (S.has state.old.store.now) (way_out junction.now.connective second.ways) }
+    requires well_formed { IsWellFormedEnv (class_parents context.now.globals.now)
         (env_of S.tree (way_out junction.now.connective first.ways)) }
-    requires agree { AgreeBelow (length setting.now.declared.now)
-        (tested_locals (meanings setting.now.names.now) (expr_of junction.now.left.now)
-        ++ tested_locals (meanings setting.now.names.now) (expr_of junction.now.right.now))
+    requires agree { AgreeBelow (length context.now.declared.now)
+        (tested_locals (meanings context.now.names.now) (expr_of junction.now.left.now)
+        ++ tested_locals (meanings context.now.names.now) (expr_of junction.now.right.now))
         (env_of S.tree (way_out junction.now.connective first.ways))
         (env_of S.tree (way_out junction.now.connective second.ways)) }
     ensures labelled { IfOk result
-        (λ n. IsLabel S.TypeStore checker.new n.label
-        (clean (join_or_object (class_parents setting.now.globals.now) (S.tree first.label.ty)
+        (λ n. IsLabel S.TypeStore state.new n.label
+        (clean (join_or_object (class_parents context.now.globals.now) (S.tree first.label.ty)
         (S.tree second.label.ty)))) }
     ensures asked { IfOk result
         (λ n. way_on junction.now.connective n.ways ≡ way_on junction.now.connective second.ways) }
     ensures met { IfOk result
-        (λ n. GivesEnv S.has S.tree checker.new.store.now (way_out junction.now.connective n.ways)
-        (join_env (class_parents setting.now.globals.now) (declared_of S.tree setting.now.declared.now)
+        (λ n. GivesEnv S.has S.tree state.new.store.now (way_out junction.now.connective n.ways)
+        (join_env (class_parents context.now.globals.now) (declared_of S.tree context.now.declared.now)
         (env_of S.tree (way_out junction.now.connective first.ways))
         (env_of S.tree (way_out junction.now.connective second.ways)))) }
-    ensures found { checker.new.found.now ≡ checker.old.found.now }
-    ensures goes_on { CheckerKept S.TypeStore checker.old checker.new }
+    ensures found { state.new.found.now ≡ state.old.found.now }
+    ensures goes_on { StateKept S.TypeStore state.old state.new }
 {
-    let parents = setting.globals.outline.parents;
-    let label = label_junction(
-        checker.store,
-        checker.alloc,
+    let parents = context.globals.outline.parents;
+    let label = junction_label(
+        state.store,
+        state.alloc,
         parents,
         &first.label.ty,
         &second.label.ty,
     )?;
     let declarations = Declarations {
         parents,
-        declared: setting.declared,
-        names: setting.names,
+        declared: context.declared,
+        names: context.names,
     };
-    let settled = settling(&junction.connective, first.ways);
+    let short_circuit_env = short_circuit_of(&junction.connective, first.ways);
     let ways = narrow_junction(
-        checker.store,
-        checker.alloc,
+        state.store,
+        state.alloc,
         &declarations,
         junction,
-        settled,
+        short_circuit_env,
         second.ways,
     )?;
     Ok(Condition { label, ways })
@@ -112,24 +112,24 @@ fn junction_condition<S: TypeStore>(
 fn simple_ways<S: TypeStore>(
     store: &mut S,
     alloc: Global,
-    setting: &ExprContext<'_, S::Ty>,
+    context: &ExprContext<'_, S::Ty>,
     env: &Env<S::Ty>,
     e: &Expr,
 ) -> Result<BothWays<S::Ty>, OutOfMemory>
-    requires given { HasGivenAll (S.has store.old) S.tree setting.now env.now }
+    requires given { HasGivenAll (S.has store.old) S.tree context.now env.now }
     requires simple { IsSimple (expr_of e.now) }
     ensures ways { IfOk result
-        (λ n. GivesWays S.has S.tree store.new setting.now (standing_of S.tree setting.now env.now) n
+        (λ n. GivesWays S.has S.tree store.new context.now (standing_of S.tree context.now env.now) n
         (expr_of e.now)) }
     ensures kept { KeepsTypes S.has store.old store.new }
 {
-    let parents = setting.globals.outline.parents;
+    let parents = context.globals.outline.parents;
     parents.ordered();
     let copy = copy_env(store, alloc, env)?;
     let declarations = Declarations {
         parents,
-        declared: setting.declared,
-        names: setting.names,
+        declared: context.declared,
+        names: context.names,
     };
     let ways = narrow_simple(store, alloc, &declarations, e, copy)?;
     Ok(ways)
@@ -139,82 +139,82 @@ fn simple_ways<S: TypeStore>(
 /// is true and where it is false. Typing specification, "Type narrowing".
 #[cycle(typing)]
 pub fn type_condition<S: TypeStore>(
-    checker: &mut TypingState<'_, S>,
-    setting: &ExprContext<'_, S::Ty>,
+    state: &mut TypingState<'_, S>,
+    context: &ExprContext<'_, S::Ty>,
     env: &Env<S::Ty>,
     e: &Expr,
 ) -> Result<Condition<S::Ty>, OutOfMemory>
-    requires { Stands S.TypeStore checker.old setting.now env.now }
+    requires { HoldsAll S.TypeStore state.old context.now env.now }
     ensures labelled { IfOk result
-        (λ n. IsLabel S.TypeStore checker.new n.label
-        (label_in (standing_of S.tree setting.now env.now) None (expr_of e.now))) }
+        (λ n. IsLabel S.TypeStore state.new n.label
+        (label_in (standing_of S.tree context.now env.now) None (expr_of e.now))) }
     ensures ways { IfOk result
-        (λ n. GivesWays S.has S.tree checker.new.store.now setting.now (standing_of S.tree setting.now env.now) n.ways
+        (λ n. GivesWays S.has S.tree state.new.store.now context.now (standing_of S.tree context.now env.now) n.ways
         (expr_of e.now)) }
-    ensures found { OnOk result (AddsNotes checker.old checker.new
-        (finds_in (standing_of S.tree setting.now env.now) None (expr_of e.now))) }
-    ensures goes_on { CheckerKept S.TypeStore checker.old checker.new }
+    ensures found { OnOk result (AddsNotes state.old state.new
+        (finds_in (standing_of S.tree context.now env.now) None (expr_of e.now))) }
+    ensures goes_on { StateKept S.TypeStore state.old state.new }
 {
-    setting.globals.outline.parents.ordered();
+    context.globals.outline.parents.ordered();
     match e {
         Expr::Not(_, operand) => {
-            let condition = type_condition(checker, setting, env, operand)?;
-            let label = label_bool(checker.store, checker.alloc)?;
+            let condition = type_condition(state, context, env, operand)?;
+            let label = bool_label(state.store, state.alloc)?;
             note_label(
-                checker.store,
-                checker.alloc,
-                setting.globals.keeps,
+                state.store,
+                state.alloc,
+                context.globals.keeps,
                 true,
                 e.place(),
                 &label,
-                checker.found,
+                state.found,
             )?;
             let ways = condition.ways.swapped();
             Ok(Condition { label, ways })
         }
-        Expr::And(_, left, right) => {
+        Expr::And { left, right, .. } => {
             let junction = Junction {
                 connective: Connective::And,
                 left,
                 right,
             };
-            let first = type_condition(checker, setting, env, left)?;
-            let second = type_condition(checker, setting, &first.ways.where_true, right)?;
-            let whole = junction_condition(checker, setting, &junction, first, second)?;
+            let first = type_condition(state, context, env, left)?;
+            let second = type_condition(state, context, &first.ways.where_true, right)?;
+            let whole = junction_condition(state, context, &junction, first, second)?;
             note_label(
-                checker.store,
-                checker.alloc,
-                setting.globals.keeps,
+                state.store,
+                state.alloc,
+                context.globals.keeps,
                 true,
                 e.place(),
                 &whole.label,
-                checker.found,
+                state.found,
             )?;
             Ok(whole)
         }
-        Expr::Or(_, left, right) => {
+        Expr::Or { left, right, .. } => {
             let junction = Junction {
                 connective: Connective::Or,
                 left,
                 right,
             };
-            let first = type_condition(checker, setting, env, left)?;
-            let second = type_condition(checker, setting, &first.ways.where_false, right)?;
-            let whole = junction_condition(checker, setting, &junction, first, second)?;
+            let first = type_condition(state, context, env, left)?;
+            let second = type_condition(state, context, &first.ways.where_false, right)?;
+            let whole = junction_condition(state, context, &junction, first, second)?;
             note_label(
-                checker.store,
-                checker.alloc,
-                setting.globals.keeps,
+                state.store,
+                state.alloc,
+                context.globals.keeps,
                 true,
                 e.place(),
                 &whole.label,
-                checker.found,
+                state.found,
             )?;
             Ok(whole)
         }
         _ => {
-            let label = check_expr(checker, setting, env, &None, e)?;
-            let ways = simple_ways(checker.store, checker.alloc, setting, env, e)?;
+            let label = check_expr(state, context, env, &None, e)?;
+            let ways = simple_ways(state.store, state.alloc, context, env, e)?;
             Ok(Condition { label, ways })
         }
     }

@@ -1,5 +1,5 @@
 //! The labels of displays, and the findings in their items and entries.
-#![tactic(auto, using(pc_rules::proofs::Kept::stands_further, pc_rules::proofs::Checkers::goes_further))]
+#![tactic(auto, using(pc_rules::proofs::Kept::stands_further, pc_rules::proofs::TypingStates::goes_further))]
 
 ghost use Rattle.std.specs.Prelude.{◌≡◌, IfOk, OnOk, map, All};
 ghost use Rattle.std.specs.Option.{option_map};
@@ -9,7 +9,7 @@ ghost use Rattle.pc_rules.specs.Computed.Standing.{standing_of, label_in, parts_
 ghost use Rattle.pc_rules.specs.Computed.Standing.{entries_find};
 ghost use Rattle.pc_expr.specs.Internal.Seats.{seats_of, seat_with, HasSeats, HasEntrySeats, AreEntryTypes};
 ghost use Rattle.pc_expr.specs.Internal.Forms.{IsDisplay};
-ghost use Rattle.pc_rules.specs.Computed.Checkers.{AddsNotes, CheckerKept, HoldsIfAny, IsLabel, Stands};
+ghost use Rattle.pc_rules.specs.Computed.TypingStates.{AddsNotes, StateKept, HoldsIfAny, IsLabel, HoldsAll};
 
 use crate::entries::{EntrySeats, EntryTypes, dict_seats, expected_dict_label};
 use crate::items::{Seats, expected_list_label, list_seats, seat_at, tuple_seats};
@@ -24,44 +24,44 @@ use pc_types::TypeStore;
 /// Types a tuple, list or dict display, with `want` as its expected type. Appends the findings in its items and returns
 /// its label. Language Reference 6.2 "Atoms".
 #[cycle(typing)]
-pub(crate) fn label_display<S: TypeStore>(
-    checker: &mut TypingState<'_, S>,
-    setting: &ExprContext<'_, S::Ty>,
+pub(crate) fn type_display<S: TypeStore>(
+    state: &mut TypingState<'_, S>,
+    context: &ExprContext<'_, S::Ty>,
     env: &Env<S::Ty>,
     want: &Option<S::Ty>,
     e: &Expr,
 ) -> Result<Label<S::Ty>, OutOfMemory>
-    requires given { Stands S.TypeStore checker.old setting.now env.now }
-    requires want { HoldsIfAny S.TypeStore checker.old want.now }
+    requires given { HoldsAll S.TypeStore state.old context.now env.now }
+    requires want { HoldsIfAny S.TypeStore state.old want.now }
     requires form { IsDisplay e.now }
     ensures labelled { IfOk result
-        (λ l. IsLabel S.TypeStore checker.new l
-        (label_in (standing_of S.tree setting.now env.now) (option_map S.tree want.now) (expr_of e.now))) }
-    ensures found { OnOk result (AddsNotes checker.old checker.new
-        (parts_find (standing_of S.tree setting.now env.now) (option_map S.tree want.now) (expr_of e.now))) }
-    ensures goes_on { CheckerKept S.TypeStore checker.old checker.new }
+        (λ l. IsLabel S.TypeStore state.new l
+        (label_in (standing_of S.tree context.now env.now) (option_map S.tree want.now) (expr_of e.now))) }
+    ensures found { OnOk result (AddsNotes state.old state.new
+        (parts_find (standing_of S.tree context.now env.now) (option_map S.tree want.now) (expr_of e.now))) }
+    ensures goes_on { StateKept S.TypeStore state.old state.new }
 {
     match e {
         Expr::Tuple(_, items) => {
-            let seats = tuple_seats(checker.store, checker.alloc, want, items.len())?;
-            let types = type_items(checker, setting, env, &seats, items)?;
-            tuple_label(checker.store, checker.alloc, &types)
+            let seats = tuple_seats(state.store, state.alloc, want, items.len())?;
+            let types = type_items(state, context, env, &seats, items)?;
+            tuple_label(state.store, state.alloc, &types)
         }
         Expr::List(_, items) => {
-            let seats = list_seats(checker.store, checker.alloc, want)?;
-            let types = type_items(checker, setting, env, &seats, items)?;
+            let seats = list_seats(state.store, state.alloc, want)?;
+            let types = type_items(state, context, env, &seats, items)?;
             expected_list_label(
-                checker.store,
-                checker.alloc,
-                setting.globals.outline.parents,
+                state.store,
+                state.alloc,
+                context.globals.outline.parents,
                 want,
                 &types,
             )
         }
         Expr::Dict(_, entries) => {
-            let seats = dict_seats(checker.store, checker.alloc, want)?;
-            let types = type_entries(checker, setting, env, &seats, entries)?;
-            expected_dict_label(checker.store, checker.alloc, setting, want, &types)
+            let seats = dict_seats(state.store, state.alloc, want)?;
+            let types = type_entries(state, context, env, &seats, entries)?;
+            expected_dict_label(state.store, state.alloc, context, want, &types)
         }
         // `form` leaves no other form; the recursion ends by the size of the whole expression.
         _ => unreachable!(),
@@ -72,28 +72,28 @@ pub(crate) fn label_display<S: TypeStore>(
 /// types in order.
 #[cycle(typing)]
 fn type_items<S: TypeStore>(
-    checker: &mut TypingState<'_, S>,
-    setting: &ExprContext<'_, S::Ty>,
+    state: &mut TypingState<'_, S>,
+    context: &ExprContext<'_, S::Ty>,
     env: &Env<S::Ty>,
     seats: &Seats<S::Ty>,
     items: &[Expr],
 ) -> Result<Vec<S::Ty>, OutOfMemory>
-    requires given { Stands S.TypeStore checker.old setting.now env.now }
-    requires seats { HasSeats (S.has checker.old.store.now) seats.now }
-    ensures held { IfOk result (λ ts. All (S.has checker.new.store.now) ts.items) }
+    requires given { HoldsAll S.TypeStore state.old context.now env.now }
+    requires seats { HasSeats (S.has state.old.store.now) seats.now }
+    ensures held { IfOk result (λ ts. All (S.has state.new.store.now) ts.items) }
     ensures typed { IfOk result
         (λ ts. map S.tree ts.items
-        ≡ types_in (standing_of S.tree setting.now env.now) (seats_of S.tree seats.now)
+        ≡ types_in (standing_of S.tree context.now env.now) (seats_of S.tree seats.now)
         (exprs_of_list items.now)) }
-    ensures found { OnOk result (AddsNotes checker.old checker.new
-        (items_find (standing_of S.tree setting.now env.now) (seats_of S.tree seats.now)
+    ensures found { OnOk result (AddsNotes state.old state.new
+        (items_find (standing_of S.tree context.now env.now) (seats_of S.tree seats.now)
         (exprs_of_list items.now))) }
-    ensures goes_on { CheckerKept S.TypeStore checker.old checker.new }
+    ensures goes_on { StateKept S.TypeStore state.old state.new }
 {
-    let mut types = Vec::new(checker.alloc);
+    let mut types = Vec::new(state.alloc);
     for item in items {
-        let seat = seat_at(checker.store, checker.alloc, seats, types.len())?;
-        let label = type_seated(checker, setting, env, &seat, item)?;
+        let seat = seat_at(state.store, state.alloc, seats, types.len())?;
+        let label = type_seated(state, context, env, &seat, item)?;
         types.push(label.ty)?;
     }
     Ok(types)
@@ -103,27 +103,27 @@ fn type_items<S: TypeStore>(
 /// returns their types in order.
 #[cycle(typing)]
 fn type_entries<S: TypeStore>(
-    checker: &mut TypingState<'_, S>,
-    setting: &ExprContext<'_, S::Ty>,
+    state: &mut TypingState<'_, S>,
+    context: &ExprContext<'_, S::Ty>,
     env: &Env<S::Ty>,
     seats: &EntrySeats<S::Ty>,
     entries: &[Entry],
 ) -> Result<EntryTypes<S::Ty>, OutOfMemory>
-    requires given { Stands S.TypeStore checker.old setting.now env.now }
-    requires seats { HasEntrySeats (S.has checker.old.store.now) seats.now }
+    requires given { HoldsAll S.TypeStore state.old context.now env.now }
+    requires seats { HasEntrySeats (S.has state.old.store.now) seats.now }
     ensures typed { IfOk result
-        (λ t. AreEntryTypes S.has S.tree checker.new.store.now (standing_of S.tree setting.now env.now) t
+        (λ t. AreEntryTypes S.has S.tree state.new.store.now (standing_of S.tree context.now env.now) t
         (seat_with S.tree seats.now.key) (seat_with S.tree seats.now.value) (entries_of_list entries.now)) }
-    ensures found { OnOk result (AddsNotes checker.old checker.new
-        (entries_find (standing_of S.tree setting.now env.now) (seat_with S.tree seats.now.key)
+    ensures found { OnOk result (AddsNotes state.old state.new
+        (entries_find (standing_of S.tree context.now env.now) (seat_with S.tree seats.now.key)
         (seat_with S.tree seats.now.value) (entries_of_list entries.now))) }
-    ensures goes_on { CheckerKept S.TypeStore checker.old checker.new }
+    ensures goes_on { StateKept S.TypeStore state.old state.new }
 {
-    let mut keys = Vec::new(checker.alloc);
-    let mut values = Vec::new(checker.alloc);
+    let mut keys = Vec::new(state.alloc);
+    let mut values = Vec::new(state.alloc);
     for entry in entries {
-        let key = type_seated(checker, setting, env, &seats.key, &entry.key)?;
-        let value = type_seated(checker, setting, env, &seats.value, &entry.value)?;
+        let key = type_seated(state, context, env, &seats.key, &entry.key)?;
+        let value = type_seated(state, context, env, &seats.value, &entry.value)?;
         keys.push(key.ty)?;
         values.push(value.ty)?;
     }

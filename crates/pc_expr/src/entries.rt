@@ -63,7 +63,7 @@ pub(crate) fn dict_seats<S: TypeStore>(
 pub(crate) fn expected_dict_label<S: TypeStore>(
     store: &mut S,
     alloc: Global,
-    setting: &ExprContext<'_, S::Ty>,
+    context: &ExprContext<'_, S::Ty>,
     want: &Option<S::Ty>,
     types: &EntryTypes<S::Ty>,
 ) -> Result<Label<S::Ty>, OutOfMemory>
@@ -72,9 +72,9 @@ pub(crate) fn expected_dict_label<S: TypeStore>(
     requires values { All (S.has store.old) types.now.values.items }
     ensures value { IfOk result
         (λ l. MeansLabel S.has S.tree store.new l
-        (dict_label (context_with S.tree setting.now) (declared_of S.tree setting.now.declared.now)
-        (static_test (class_parents setting.now.globals.now))
-        (assignable_test (class_parents setting.now.globals.now))
+        (dict_label (context_with S.tree context.now) (declared_of S.tree context.now.declared.now)
+        (static_test (class_parents context.now.globals.now))
+        (assignable_test (class_parents context.now.globals.now))
         (dict_parts (members_of_expected (option_map S.tree want.now))) (map S.tree types.now.keys.items)
         (map S.tree types.now.values.items))) }
     ensures kept { KeepsTypes S.has store.old store.new }
@@ -83,7 +83,7 @@ pub(crate) fn expected_dict_label<S: TypeStore>(
     dict_label(
         store,
         alloc,
-        setting.globals.outline.parents,
+        context.globals.outline.parents,
         &parts,
         &types.keys,
         &types.values,

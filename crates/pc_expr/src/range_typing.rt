@@ -1,5 +1,5 @@
 //! A call of `range` as the iterable of a `for`.
-#![tactic(auto, using(pc_rules::proofs::Checkers::goes_further))]
+#![tactic(auto, using(pc_rules::proofs::TypingStates::goes_further))]
 
 ghost use Rattle.std.specs.Prelude.{IfOk, OnOk};
 ghost use Rattle.pc_tree.specs.Tree.{expr_of};
@@ -7,7 +7,7 @@ ghost use Rattle.pc_tree.specs.Lists.{exprs_of_list, keywords_of_list};
 ghost use Rattle.pc_rules.specs.Calls.{arguments_given, range_item};
 ghost use Rattle.pc_rules.specs.Computed.Standing.{standing_of};
 ghost use Rattle.pc_rules.specs.Computed.Ranges.{range_finds};
-ghost use Rattle.pc_rules.specs.Computed.Checkers.{AddsNotes, CheckerKept, IsLabel, Stands};
+ghost use Rattle.pc_rules.specs.Computed.TypingStates.{AddsNotes, StateKept, IsLabel, HoldsAll};
 
 use crate::calls::{type_arguments, type_keywords};
 use pc_calls::given::given;
@@ -31,52 +31,52 @@ pub struct RangeCall<'e> {
 /// Appends the findings of a call of `range` as the iterable of a `for`: in its arguments, of their flows into `int`,
 /// and at the call.
 fn find_range<S: TypeStore>(
-    checker: &mut TypingState<'_, S>,
-    setting: &ExprContext<'_, S::Ty>,
+    state: &mut TypingState<'_, S>,
+    context: &ExprContext<'_, S::Ty>,
     env: &Env<S::Ty>,
     range: &RangeCall<'_>,
 ) -> Result<(), OutOfMemory>
-    requires { Stands S.TypeStore checker.old setting.now env.now }
-    ensures found { OnOk result (AddsNotes checker.old checker.new
-        (range_finds (standing_of S.tree setting.now env.now) range.now.place
+    requires { HoldsAll S.TypeStore state.old context.now env.now }
+    ensures found { OnOk result (AddsNotes state.old state.new
+        (range_finds (standing_of S.tree context.now env.now) range.now.place
         (expr_of range.now.callee.now) (exprs_of_list range.now.arguments.now)
         (keywords_of_list range.now.by_name.now))) }
-    ensures goes_on { CheckerKept S.TypeStore checker.old checker.new }
+    ensures goes_on { StateKept S.TypeStore state.old state.new }
 {
-    let keys = setting.globals.outline.tree.keys;
-    let given = given(checker.alloc, keys, range.arguments, range.by_name)?;
-    let offers = range_offers(checker.store, checker.alloc, &given)?;
+    let keys = context.globals.outline.tree.keys;
+    let given = given(state.alloc, keys, range.arguments, range.by_name)?;
+    let offers = range_offers(state.store, state.alloc, &given)?;
     let is_test = is_instance_test(range.callee, range.arguments, range.by_name);
-    type_arguments(checker, setting, env, is_test, &offers, range.arguments)?;
-    type_keywords(checker, setting, env, &offers, range.by_name)?;
-    let codes = call_codes(checker.alloc, &offers)?;
-    find_codes(range.place, &codes, checker.found)
+    type_arguments(state, context, env, is_test, &offers, range.arguments)?;
+    type_keywords(state, context, env, &offers, range.by_name)?;
+    let codes = call_codes(state.alloc, &offers)?;
+    find_codes(range.place, &codes, state.found)
 }
 
 /// Types a call of `range` as the iterable of a `for`. Appends the findings in its arguments, of their flows into
 /// `int`, and at the call; returns the label of its items. Library reference, "Built-in Functions"; own rule of the
 /// profile.
 pub fn type_range<S: TypeStore>(
-    checker: &mut TypingState<'_, S>,
-    setting: &ExprContext<'_, S::Ty>,
+    state: &mut TypingState<'_, S>,
+    context: &ExprContext<'_, S::Ty>,
     env: &Env<S::Ty>,
     range: &RangeCall<'_>,
 ) -> Result<Label<S::Ty>, OutOfMemory>
-    requires { Stands S.TypeStore checker.old setting.now env.now }
+    requires { HoldsAll S.TypeStore state.old context.now env.now }
     ensures label { IfOk result
-        (λ l. IsLabel S.TypeStore checker.new l
+        (λ l. IsLabel S.TypeStore state.new l
         (range_item (arguments_given (exprs_of_list range.now.arguments.now) (keywords_of_list range.now.by_name.now)))) }
-    ensures found { OnOk result (AddsNotes checker.old checker.new
-        (range_finds (standing_of S.tree setting.now env.now) range.now.place
+    ensures found { OnOk result (AddsNotes state.old state.new
+        (range_finds (standing_of S.tree context.now env.now) range.now.place
         (expr_of range.now.callee.now) (exprs_of_list range.now.arguments.now)
         (keywords_of_list range.now.by_name.now))) }
-    ensures goes_on { CheckerKept S.TypeStore checker.old checker.new }
+    ensures goes_on { StateKept S.TypeStore state.old state.new }
 {
-    find_range(checker, setting, env, range)?;
-    let keys = setting.globals.outline.tree.keys;
+    find_range(state, context, env, range)?;
+    let keys = context.globals.outline.tree.keys;
     range_item(
-        checker.store,
-        checker.alloc,
+        state.store,
+        state.alloc,
         keys,
         range.arguments,
         range.by_name,

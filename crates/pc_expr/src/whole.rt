@@ -6,7 +6,7 @@ ghost use Rattle.pc_types.specs.Store.{KeepsTypes, Means};
 ghost use Rattle.pc_class.specs.Tables.{HasEntries};
 ghost use Rattle.pc_flow.specs.Stored.{HasEach, env_of};
 ghost use Rattle.pc_rules.specs.Calls.{first_type, length_label};
-ghost use Rattle.pc_rules.specs.Computed.Checkers.{CheckerKept, IsLabel};
+ghost use Rattle.pc_rules.specs.Computed.TypingStates.{StateKept, IsLabel};
 ghost use Rattle.pc_rules.specs.Lawful.{whole_call_label};
 ghost use Rattle.pc_rules.specs.Computed.Standing.{context_with, MeansLabel};
 ghost use Rattle.pc_rules.specs.Computed.ModuleParents.{class_parents};
@@ -41,13 +41,13 @@ fn first_type<S: TypeStore>(
 fn length_label<S: TypeStore>(
     store: &mut S,
     alloc: Global,
-    setting: &ExprContext<'_, S::Ty>,
+    context: &ExprContext<'_, S::Ty>,
     types: &[S::Ty],
 ) -> Result<Label<S::Ty>, OutOfMemory>
-    requires classes { HasEntries (S.has store.old) setting.now.globals.now.classes.now }
+    requires classes { HasEntries (S.has store.old) context.now.globals.now.classes.now }
     requires types { All (S.has store.old) types.now }
     ensures label { IfOk result
-        (λ l. MeansLabel S.has S.tree store.new l (length_label (class_parents setting.now.globals.now)
+        (λ l. MeansLabel S.has S.tree store.new l (length_label (class_parents context.now.globals.now)
         (map S.tree types.now))) }
     ensures kept { KeepsTypes S.has store.old store.new }
 {
@@ -55,46 +55,46 @@ fn length_label<S: TypeStore>(
     let offers = member_offers(
         store,
         alloc,
-        setting.globals.outline.parents,
-        setting.globals.classes,
+        context.globals.outline.parents,
+        context.globals.classes,
         Operation::Length,
         &ty,
     )?;
-    offers_label(store, alloc, setting.globals.outline.parents, &offers)
+    offers_label(store, alloc, context.globals.outline.parents, &offers)
 }
 
 /// Returns the label of a whole call, given its callee, its arguments and their types: for `len` and an instance test
 /// the label of that operation, for any other callee the label of its offers. Appends nothing. Language Reference 6.3.4
 /// "Calls".
 pub(crate) fn whole_call_label<S: TypeStore>(
-    checker: &mut TypingState<'_, S>,
-    setting: &ExprContext<'_, S::Ty>,
+    state: &mut TypingState<'_, S>,
+    context: &ExprContext<'_, S::Ty>,
     env: &Env<S::Ty>,
     callee: &TypedCallee<'_, S::Ty>,
     arguments: &[Expr],
     types: &[S::Ty],
 ) -> Result<Label<S::Ty>, OutOfMemory>
-    requires classes { HasEntries (S.has checker.old.store.now) setting.now.globals.now.classes.now }
-    requires env { HasEach (S.has checker.old.store.now) env.now }
-    requires offers { All (HasCallOffer (S.has checker.old.store.now)) callee.now.offers.items }
-    requires types { All (S.has checker.old.store.now) types.now }
+    requires classes { HasEntries (S.has state.old.store.now) context.now.globals.now.classes.now }
+    requires env { HasEach (S.has state.old.store.now) env.now }
+    requires offers { All (HasCallOffer (S.has state.old.store.now)) callee.now.offers.items }
+    requires types { All (S.has state.old.store.now) types.now }
     ensures label { IfOk result
-        (λ l. IsLabel S.TypeStore checker.new l
-        (whole_call_label (context_with S.tree setting.now) (env_of S.tree env.now) (rule_of callee.now.rule)
+        (λ l. IsLabel S.TypeStore state.new l
+        (whole_call_label (context_with S.tree context.now) (env_of S.tree env.now) (rule_of callee.now.rule)
         (map (offer_called S.tree) callee.now.offers.items) (exprs_of_list arguments.now) (map S.tree types.now))) }
-    ensures found { checker.new.found.now ≡ checker.old.found.now }
-    ensures goes_on { CheckerKept S.TypeStore checker.old checker.new }
+    ensures found { state.new.found.now ≡ state.old.found.now }
+    ensures goes_on { StateKept S.TypeStore state.old state.new }
 {
     match callee.rule {
         CallRule::Member => {
             members_label(
-                checker.store,
-                checker.alloc,
-                setting.globals.outline.parents,
+                state.store,
+                state.alloc,
+                context.globals.outline.parents,
                 &callee.offers,
             )
         }
-        CallRule::Length => length_label(checker.store, checker.alloc, setting, types),
-        CallRule::Test => { test_label(checker.store, checker.alloc, setting, env, arguments) }
+        CallRule::Length => length_label(state.store, state.alloc, context, types),
+        CallRule::Test => { test_label(state.store, state.alloc, context, env, arguments) }
     }
 }

@@ -5,7 +5,7 @@ use Rattle.std.specs.Prelude.{unwrap_or}
 use Rattle.pc_tree.specs.Tree.{Expr, name, negation, is_none, is_not_none, conjunction, disjunction, call}
 use Rattle.pc_scope.specs.declared.resolution.Builtin.TheVariants as builtin
 use Rattle.pc_scope.specs.declared.resolution.NameMeaning.{NameMeaning}
-use Rattle.pc_scope.specs.declared.resolution.NameMeaning.TheVariants as res
+use Rattle.pc_scope.specs.declared.resolution.NameMeaning.TheVariants as meaning
 use Rattle.pc_scope.specs.Expressions.{is_instance_test}
 use Rattle.pc_tree.specs.declared.code.Code.{Code}
 use Rattle.pc_types.specs.Tree.{Tree, Object, Union}
@@ -116,11 +116,11 @@ module _ (bases : Bases) (o : AreSmaller bases) where
   IsFine (Some test) = IsTestable test
 
   named_fine : (r : NameMeaning) → IsFine (test_named r)
-  named_fine (res.Class c) = tt
-  named_fine (res.Builtin builtin.Int) = tt
-  named_fine (res.Builtin builtin.Str) = tt
-  named_fine (res.Builtin builtin.Bool) = tt
-  named_fine (res.Builtin builtin.List) = tt
+  named_fine (meaning.Class c) = tt
+  named_fine (meaning.Builtin builtin.Int) = tt
+  named_fine (meaning.Builtin builtin.Str) = tt
+  named_fine (meaning.Builtin builtin.Bool) = tt
+  named_fine (meaning.Builtin builtin.List) = tt
   named_fine _ = tt
 
   module _ (declared : List Tree) (g : AreWellFormed bases declared) (resolve : List ℕ → NameMeaning) where

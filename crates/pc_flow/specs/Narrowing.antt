@@ -6,7 +6,7 @@ use Rattle.pc_tree.specs.Tree.{Expr, Exprs, name, negation, is_none, is_not_none
 use Rattle.pc_tree.specs.Tree.{no_exprs, more_exprs}
 use Rattle.pc_scope.specs.declared.resolution.Builtin.TheVariants as builtin
 use Rattle.pc_scope.specs.declared.resolution.NameMeaning.{NameMeaning}
-use Rattle.pc_scope.specs.declared.resolution.NameMeaning.TheVariants as res
+use Rattle.pc_scope.specs.declared.resolution.NameMeaning.TheVariants as meaning
 use Rattle.pc_scope.specs.Expressions.{is_instance_test}
 use Rattle.pc_types.specs.Tree.{Tree, Any, Object, Int, Bool, Str, NoneType, Class, ListOf, Union}
 use Rattle.pc_types.specs.Below.{Bases}
@@ -79,7 +79,7 @@ narrow_local bases holds test (Some x) env = narrow_current bases holds test x e
 
 -- the local that a name means, if it means a local
 abbrev pub as_local : NameMeaning → Option ℕ
-as_local (res.Local x) = Some x
+as_local (meaning.Local x) = Some x
 as_local _ = None
 
 -- the local that an expression names, if it is the name of a local
@@ -90,11 +90,11 @@ local_named resolve _ = None
 -- the test by `isinstance` with a name of this meaning: for a class, `int`, `str`, `bool` or `list`; any other name is
 -- no test
 abbrev pub test_named : NameMeaning → Option Tested
-test_named (res.Class c) = Some (for_type (Class c))
-test_named (res.Builtin builtin.Int) = Some (for_type Int)
-test_named (res.Builtin builtin.Str) = Some (for_type Str)
-test_named (res.Builtin builtin.Bool) = Some (for_type Bool)
-test_named (res.Builtin builtin.List) = Some for_list
+test_named (meaning.Class c) = Some (for_type (Class c))
+test_named (meaning.Builtin builtin.Int) = Some (for_type Int)
+test_named (meaning.Builtin builtin.Str) = Some (for_type Str)
+test_named (meaning.Builtin builtin.Bool) = Some (for_type Bool)
+test_named (meaning.Builtin builtin.List) = Some for_list
 test_named _ = None
 
 -- the test by `isinstance` with this second argument, if it is one

@@ -46,8 +46,8 @@ fn deciding<'w, Ty: Drop>(connective: &Connective, ways: &'w BothWays<Ty>) -> &'
     }
 }
 
-/// Returns the environments where a junction is true and where it is false, given `settled`, the environment where the
-/// first operand alone decides it, and `second`, those after the second operand. Two paths lead to the outcome that
+/// Returns the environments where a junction is true and where it is false, given `short_circuit_env`, the one where
+/// the first operand alone decides it, and `second`, those after the second operand. Two paths lead to the outcome that
 /// either operand can decide; they are joined at the locals that the operands test, and agree at all others. Language
 /// Reference 6.11 "Boolean operations".
 pub fn narrow_junction<S: TypeStore>(
@@ -55,22 +55,22 @@ pub fn narrow_junction<S: TypeStore>(
     alloc: Global,
     declarations: &Declarations<'_, S::Ty>,
     junction: &Junction,
-    settled: Env<S::Ty>,
+    short_circuit_env: Env<S::Ty>,
     second: BothWays<S::Ty>,
 ) -> Result<BothWays<S::Ty>, OutOfMemory>
     requires declared { HasEach (S.has store.old) declarations.now.declared.now }
-    requires settled { HasEach (S.has store.old) settled }
+    requires short_circuit_env { HasEach (S.has store.old) short_circuit_env }
     requires second { HasEach (S.has store.old) (way_out junction.now.connective second) }
-    requires well_formed { IsWellFormedEnv declarations.now.parents.now (env_of S.tree settled) }
+    requires well_formed { IsWellFormedEnv declarations.now.parents.now (env_of S.tree short_circuit_env) }
     requires agree { AgreeBelow (length declarations.now.declared.now)
         (tested_locals (meanings declarations.now.names.now) (expr_of junction.now.left.now)
         ++ tested_locals (meanings declarations.now.names.now) (expr_of junction.now.right.now))
-        (env_of S.tree settled) (env_of S.tree (way_out junction.now.connective second)) }
+        (env_of S.tree short_circuit_env) (env_of S.tree (way_out junction.now.connective second)) }
     ensures asked { IfOk result
         (λ n. way_on junction.now.connective n ≡ way_on junction.now.connective second) }
     ensures met { IfOk result
         (λ n. GivesEnv S.has S.tree store.new (way_out junction.now.connective n)
-        (join_with S.tree declarations.now (env_of S.tree settled)
+        (join_with S.tree declarations.now (env_of S.tree short_circuit_env)
         (env_of S.tree (way_out junction.now.connective second)))) }
     ensures kept { KeepsTypes S.has store.old store.new }
 {
@@ -81,7 +81,7 @@ pub fn narrow_junction<S: TypeStore>(
     } = junction;
     let tested = tested_by_both(alloc, declarations.names, left, right)?;
     let late = deciding(connective, &second);
-    let met = join_some(store, alloc, declarations, &tested, settled, late)?;
+    let met = join_some(store, alloc, declarations, &tested, short_circuit_env, late)?;
     match connective {
         Connective::And => Ok(BothWays {
             where_true: second.where_true,

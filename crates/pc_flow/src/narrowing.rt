@@ -215,7 +215,12 @@ pub fn narrow_simple<S: TypeStore>(
             let is_none = narrow_none(store, alloc, declarations, e, env)?;
             Ok(is_none.swapped())
         }
-        Expr::Call(_, callee, arguments, by_name) => {
+        Expr::Call {
+            callee,
+            arguments,
+            keywords: by_name,
+            ..
+        } => {
             let is_test = is_instance_test(callee, arguments, by_name);
             narrow_instance(store, alloc, declarations, is_test, arguments, env)
         }
@@ -248,7 +253,7 @@ fn narrow<S: TypeStore>(
             let holds = narrow(store, alloc, declarations, e, env)?;
             Ok(holds.swapped())
         }
-        Expr::And(_, left, right) => {
+        Expr::And { left, right, .. } => {
             let connective = Connective::And;
             let junction = Junction {
                 connective,
@@ -257,11 +262,18 @@ fn narrow<S: TypeStore>(
             };
             let first = narrow(store, alloc, declarations, left, env)?;
             let second = narrow(store, alloc, declarations, right, first.where_true)?;
-            let settled = first.where_false;
-            let ways = narrow_junction(store, alloc, declarations, &junction, settled, second)?;
+            let short_circuit_env = first.where_false;
+            let ways = narrow_junction(
+                store,
+                alloc,
+                declarations,
+                &junction,
+                short_circuit_env,
+                second,
+            )?;
             Ok(ways)
         }
-        Expr::Or(_, left, right) => {
+        Expr::Or { left, right, .. } => {
             let connective = Connective::Or;
             let junction = Junction {
                 connective,
@@ -270,8 +282,15 @@ fn narrow<S: TypeStore>(
             };
             let first = narrow(store, alloc, declarations, left, env)?;
             let second = narrow(store, alloc, declarations, right, first.where_false)?;
-            let settled = first.where_true;
-            let ways = narrow_junction(store, alloc, declarations, &junction, settled, second)?;
+            let short_circuit_env = first.where_true;
+            let ways = narrow_junction(
+                store,
+                alloc,
+                declarations,
+                &junction,
+                short_circuit_env,
+                second,
+            )?;
             Ok(ways)
         }
         _ => {

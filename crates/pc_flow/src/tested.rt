@@ -67,17 +67,28 @@ pub fn add_tested(
         Expr::IsNone(_, e) => add_named(names, e, tested),
         Expr::IsNotNone(_, e) => add_named(names, e, tested),
         Expr::Not(_, e) => add_tested(names, e, tested),
-        Expr::And(_, a, b) => {
+        Expr::And {
+            left: a,
+            right: b,
+            ..
+        } => {
             add_tested(names, a, tested)?;
             add_tested(names, b, tested)
         }
-        Expr::Or(_, a, b) => {
+        Expr::Or {
+            left: a,
+            right: b,
+            ..
+        } => {
             add_tested(names, a, tested)?;
             add_tested(names, b, tested)
         }
-        Expr::Call(_, callee, arguments, by_name) => {
-            add_tested_by_call(names, callee, arguments, by_name, tested)
-        }
+        Expr::Call {
+            callee,
+            arguments,
+            keywords: by_name,
+            ..
+        } => { add_tested_by_call(names, callee, arguments, by_name, tested) }
         Expr::Name(_)
         | Expr::Int(_, _)
         | Expr::Str(_, _)
@@ -88,10 +99,10 @@ pub fn add_tested(
         | Expr::List(_, _)
         | Expr::Dict(_, _)
         | Expr::Negative(_, _)
-        | Expr::Binary(_, _, _, _)
-        | Expr::Compare(_, _, _, _)
-        | Expr::Attribute(_, _, _)
-        | Expr::Index(_, _, _) => Ok(()),
+        | Expr::Binary { .. }
+        | Expr::Compare { .. }
+        | Expr::Attribute { .. }
+        | Expr::Index { .. } => Ok(()),
     }
 }
 

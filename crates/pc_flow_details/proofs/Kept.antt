@@ -9,18 +9,17 @@ use Rattle.std.specs.Prelude.{OnOk, Result, false, find, flat_map}
 use Rattle.std.specs.Option.{option_map, option_or}
 use Rattle.pc_source.specs.declared.place.Place.{Place}
 use Rattle.pc_tree.proofs.Stops.{cons_at}
-use Rattle.pc_tree.specs.Tree.{Expr}
+use Rattle.pc_tree.specs.Tree.{Expr, Module}
 use Rattle.pc_scope.specs.declared.resolution.Owner.{Owner}
 use Rattle.pc_scope.specs.Expressions.{parts_in}
 use Rattle.pc_types.specs.Tree.{Tree}
-use Rattle.pc_detail_texts.specs.Details as detail
-use Rattle.pc_detail_texts.specs.Mapped.{map_detail}
 use Rattle.pc_detail_facts.specs.declared.facts.Facts.{Facts}
 use Rattle.pc_flow_details.specs.declared.sink.Sinks.{Sinks}
-use Rattle.pc_detail_facts.specs.Held.{known_held, module_held, text_held}
+use Rattle.pc_detail_facts.specs.Held.{known_held, module_held}
 use Rattle.pc_flow_details.specs.Kept.{FlowDetails, first_of_both, flows_to_sinks, flows_kept, taken_below, taken_in}
 use Rattle.pc_detail_rules.specs.Nodes.{owned}
-use Rattle.pc_detail_rules.specs.Sinks.{SinkAt, flow_among, flow_with, sinks_in, takes_into}
+use Rattle.pc_detail_rules.specs.Sinks.{SinkAt, sinks_in, takes_into}
+use Rattle.pc_detail_rules.specs.ToldTypes.{told_among, told_flow}
 
 -- ---- two lists of sinks
 
@@ -37,39 +36,27 @@ or_assoc : {A : Type 0} (a b c : Option A) → option_or (option_or a b) c ≡ o
 or_assoc None b c = refl
 or_assoc (Some x) b c = refl
 
-with_both : (ss rs : List SinkAt) (p : Place) (s t : Tree)
-    → flow_with (ss ++ rs) p s t ≡ option_or (flow_with ss p s t) (flow_with rs p s t)
-with_both ss rs p s t =
-    ap (λ (o : Option SinkAt). option_map (detail.flow s t) (option_map (λ (x : SinkAt). x.sink) o))
-    (find-append (takes_into p t) ss rs)
-    ∙ ap (option_map (detail.flow s t)) (mapped_or (λ (x : SinkAt). x.sink) (find (takes_into p t) ss)
-    (find (takes_into p t) rs))
-    ∙ mapped_or (detail.flow s t) (option_map (λ (x : SinkAt). x.sink) (find (takes_into p t) ss))
-    (option_map (λ (x : SinkAt). x.sink) (find (takes_into p t) rs))
+among_both : (m : Module) (ss rs : List SinkAt) (p : Place) (o : Option (Tree × Tree))
+    → told_among m (ss ++ rs) p o ≡ option_or (told_among m ss p o) (told_among m rs p o)
+among_both m ss rs p None = refl
+among_both m ss rs p (Some st) = ap (option_map (told_flow m st.0 st.1)) (find-append (takes_into p st.1) ss rs)
+    ∙ mapped_or (told_flow m st.0 st.1) (find (takes_into p st.1) ss) (find (takes_into p st.1) rs)
 
-among_both : (ss rs : List SinkAt) (p : Place) (o : Option (Tree × Tree))
-    → flow_among (ss ++ rs) p o ≡ option_or (flow_among ss p o) (flow_among rs p o)
-among_both ss rs p None = refl
-among_both ss rs p (Some st) = with_both ss rs p st.0 st.1
-
-among_none : (p : Place) (o : Option (Tree × Tree)) → flow_among [] p o ≡ None
-among_none p None = refl
-among_none p (Some st) = refl
+among_none : (m : Module) (p : Place) (o : Option (Tree × Tree)) → told_among m [] p o ≡ None
+among_none m p None = refl
+among_none m p (Some st) = refl
 
 -- the flows into two lists of sinks
 pub both_into : (f : Facts) (ss rs : List SinkAt)
     → flows_to_sinks f (ss ++ rs) ≡ first_of_both (flows_to_sinks f ss) (flows_to_sinks f rs)
 unfolding flows_to_sinks first_of_both
-both_into f ss rs = λ i c p. (ap (option_map (map_detail (text_held f)))
-    (among_both ss rs p ((known_held f).flows c p))
-    ∙ mapped_or (map_detail (text_held f)) (flow_among ss p ((known_held f).flows c p))
-    (flow_among rs p ((known_held f).flows c p))) i
+both_into f ss rs = λ i c p. among_both (module_held f) ss rs p ((known_held f).flows c p) i
 
 -- no sinks take no flows
 pub none_into : (f : Facts) (x : FlowDetails) → first_of_both x (flows_to_sinks f []) ≡ x
 unfolding flows_to_sinks first_of_both
-none_into f x = λ i c p. (ap (λ o. option_or (x c p) (option_map (map_detail (text_held f)) o))
-    (among_none p ((known_held f).flows c p)) ∙ or_none (x c p)) i
+none_into f x = λ i c p. (ap (option_or (x c p)) (among_none (module_held f) p ((known_held f).flows c p))
+    ∙ or_none (x c p)) i
 
 both_assoc : (a b c : FlowDetails) → first_of_both (first_of_both a b) c ≡ first_of_both a (first_of_both b c)
 unfolding first_of_both

@@ -2,6 +2,7 @@ pub mod Arguments
 pub mod EachSink
 pub mod Kept
 pub mod KeptFlow
+pub mod LocalsHeld
 pub mod NotStored
 pub mod OwnFirst
 pub mod SearchedSinks

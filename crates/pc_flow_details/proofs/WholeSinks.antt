@@ -14,17 +14,17 @@ use Rattle.pc_scope.specs.declared.resolution.Owner.TheVariants as owners
 use Rattle.pc_scope.specs.Bindings.{Body, bodies, classes_in, constants_in}
 use Rattle.pc_scope.specs.Expressions.{parts_in}
 use Rattle.pc_notes.specs.Texts.{place_cmp}
-use Rattle.pc_detail_texts.specs.Mapped.{map_detail}
 use Rattle.pc_detail_texts.specs.declared.details.Flow.{Flow}
 use Rattle.pc_detail_facts.specs.declared.facts.Facts.{Facts}
 use Rattle.pc_flow_details.specs.declared.sink.Sinks.{Sinks}
-use Rattle.pc_detail_facts.specs.Held.{known_held, module_held, text_held}
+use Rattle.pc_detail_facts.specs.Held.{known_held, module_held}
 use Rattle.pc_flow_details.specs.Kept.{FlowDetails, first_of_both, flow_kept, flow_of_value, flows_to_sinks, flows_kept}
 use Rattle.pc_flow_details.specs.Kept.{taken_below, taken_in, taken_in_body}
 use Rattle.pc_detail_rules.specs.Nodes.{exprs_of_body, exprs_of_module, owned}
 use Rattle.pc_flow_details.proofs.Kept.{then_into}
-use Rattle.pc_detail_rules.specs.Sinks.{SinkAt, flow_detail, sinks_in, sinks_of, sinks_of_body, sinks_of_class}
+use Rattle.pc_detail_rules.specs.Sinks.{SinkAt, sinks_in, sinks_of, sinks_of_body, sinks_of_class}
 use Rattle.pc_detail_rules.specs.Sinks.{sinks_of_constant}
+use Rattle.pc_detail_rules.specs.ToldTypes.{told_among}
 
 -- ---- lists of lists
 
@@ -108,14 +108,14 @@ from_none f s ss w d = λ i c p. (none_or (flows_kept s c p) (flows_to_sinks f s
 -- the wrong flows that are kept
 pub wrong_kept : (f : Facts) (s : Sinks) → flows_kept s ≡ flows_to_sinks f (sinks_of (module_held f) (known_held f))
     → (p : Place) → flow_kept s.wrong p
-    ≡ option_map (map_detail (text_held f)) (flow_detail (module_held f) (known_held f) E12 p)
+    ≡ told_among (module_held f) (sinks_of (module_held f) (known_held f)) p ((known_held f).flows E12 p)
 unfolding flows_kept flows_to_sinks
 wrong_kept f s e p = λ i. e i E12 p
 
 -- the dynamic flows that are kept
 pub dynamic_kept : (f : Facts) (s : Sinks) → flows_kept s ≡ flows_to_sinks f (sinks_of (module_held f) (known_held f))
     → (p : Place) → flow_kept s.dynamic p
-    ≡ option_map (map_detail (text_held f)) (flow_detail (module_held f) (known_held f) A1 p)
+    ≡ told_among (module_held f) (sinks_of (module_held f) (known_held f)) p ((known_held f).flows A1 p)
 unfolding flows_kept flows_to_sinks
 dynamic_kept f s e p = λ i. e i A1 p
 

@@ -10,6 +10,7 @@ use Rattle.pc_detail_facts.specs.declared.facts.Facts.{Facts}
 use Rattle.pc_flow_details.specs.declared.sink.SinkAt.{SinkAt as RustSinkAt}
 use Rattle.pc_flow_details.specs.declared.sink.SinkOf.{SinkOf}
 use Rattle.pc_flow_details.specs.declared.sink.SinkOf.TheVariants as goes
+use Rattle.pc_detail_facts.specs.Annotated.{annotation_lent}
 use Rattle.pc_detail_facts.specs.Callees.{IsHeldCalled, called_of, name_of_parameter, parameters_called, takes_names_in}
 use Rattle.pc_detail_facts.specs.Held.{IsGivenLent, body_of, module_held, tree_lent}
 use Rattle.pc_detail_rules.specs.Nodes.{function_name}
@@ -44,7 +45,12 @@ sink_held f (goes.Sought t) = detail.a_sought (tree_lent t)
 
 -- a sink of the value at a place, as the rules see it
 abbrev pub sink_at_held : Facts → RustSinkAt → SinkAt
-sink_at_held f s = record { place = s.place; into = option_map tree_lent s.into; sink = sink_held f s.sink }
+sink_at_held f s = record {
+  place = s.place;
+  into = option_map tree_lent s.into;
+  sink = sink_held f s.sink;
+  written = option_map annotation_lent s.written;
+}
 
 -- the types of a sink are such as a store may give
 abbrev pub IsHeldSink : SinkOf → Type 0

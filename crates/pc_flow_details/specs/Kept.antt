@@ -12,16 +12,16 @@ use Rattle.pc_scope.specs.Bindings.{Body}
 use Rattle.pc_scope.specs.Expressions.{exprs_in_all, parts_in}
 use Rattle.pc_notes.specs.Texts.{place_cmp}
 use Rattle.pc_detail_texts.specs.Details.{Detail}
-use Rattle.pc_detail_texts.specs.Mapped.{map_detail}
 use Rattle.pc_detail_texts.specs.Sentences.{Words}
 use Rattle.pc_detail_texts.specs.Shown.{type_fault_of_value}
 use Rattle.pc_detail_texts.specs.declared.details.Flow.{Flow}
 use Rattle.pc_detail_texts.specs.declared.details.TypeFault.TheVariants as type
 use Rattle.pc_detail_facts.specs.declared.facts.Facts.{Facts}
 use Rattle.pc_flow_details.specs.declared.sink.Sinks.{Sinks}
-use Rattle.pc_detail_facts.specs.Held.{known_held, module_held, text_held}
+use Rattle.pc_detail_facts.specs.Held.{known_held, module_held}
 use Rattle.pc_detail_rules.specs.Nodes.{owned}
-use Rattle.pc_detail_rules.specs.Sinks.{SinkAt, flow_among, sinks_in}
+use Rattle.pc_detail_rules.specs.Sinks.{SinkAt, sinks_in}
+use Rattle.pc_detail_rules.specs.ToldTypes.{told_among}
 
 -- the detail of a kept flow
 abbrev pub flow_of_value : Flow → Detail Words
@@ -42,7 +42,7 @@ flows_kept s c p = flow_kept s.dynamic p
 
 -- the flows of a module that some sinks take, each with the first sink that takes it
 unfoldable pub flows_to_sinks : Facts → List SinkAt → Code → Place → Option (Detail Words)
-flows_to_sinks f ss c p = option_map (map_detail (text_held f)) (flow_among ss p ((known_held f).flows c p))
+flows_to_sinks f ss c p = told_among (module_held f) ss p ((known_held f).flows c p)
 
 -- the first flows, and the others where there is none of the first
 unfoldable pub first_of_both : (first others : FlowDetails) → Code → Place → Option (Detail Words)

@@ -1,17 +1,16 @@
 //! The sinks of the arguments of a call.
 
-ghost use Rattle.std.specs.Prelude.{◌≡◌, All, OnOk, flat_map, map, slice_get};
-ghost use Rattle.std.specs.Option.{option_and_then};
+ghost use Rattle.std.specs.Prelude.{◌≡◌, All, OnOk, flat_map, map};
 ghost use Rattle.pc_tree.specs.Depth.{place_of};
 ghost use Rattle.pc_tree.specs.Lists.{exprs_of_list, keywords_of_list};
 ghost use Rattle.pc_tree.specs.Tree.{expr_of, name_of};
-ghost use Rattle.pc_class.specs.Facts.{field_by_name};
+ghost use Rattle.pc_rules.specs.Calls.{index_of_parameter};
 ghost use Rattle.pc_detail_facts.specs.Callees.{IsHeldCalled, called_of, parameters_called};
 ghost use Rattle.pc_detail_facts.specs.Held.{AreFacts};
 ghost use Rattle.pc_flow_details.specs.Kept.{first_of_both, flows_to_sinks, flows_kept};
 ghost use Rattle.pc_detail_rules.specs.Sinks.{named_on, named_sinks, positional_on, positional_sinks};
 
-use crate::sink::{SinkOf, Sinks, add_into};
+use crate::sink::{SinkAt, SinkOf, Sinks, add_sink};
 use pc_detail_facts::{CallTarget, Facts};
 use pc_source::{OutOfMemory, Place};
 use pc_tree::{Expr, KeywordArgument};
@@ -129,13 +128,15 @@ fn add_argument<'c>(
         return Ok(());
     }
     match called.type_at(facts, position)? {
-        Some(ty) => add_into(
-            facts,
-            sinks,
-            place,
-            &ty,
-            SinkOf::Parameter(called, position),
-        ),
+        Some(ty) => {
+            let sink = SinkAt {
+                place,
+                into: Some(&ty),
+                sink: SinkOf::Parameter(called, position),
+                written: called.annotation_at(facts, position),
+            };
+            add_sink(facts, sinks, sink)
+        }
         None => Ok(()),
     }
 }
@@ -143,8 +144,7 @@ fn add_argument<'c>(
 /// Returns the position of the first parameter with a name.
 fn position_of<'c>(facts: &Facts<'c, '_>, called: CallTarget<'c>, name: &str) -> Option<usize>
     requires { AreFacts facts.now }
-    ensures { option_and_then (slice_get (parameters_called facts.now called.entry)) result
-        ≡ field_by_name (parameters_called facts.now called.entry) name.now }
+    ensures { result ≡ index_of_parameter (parameters_called facts.now called.entry) name.now }
 {
     for position in 0..called.count(facts) {
         if name == called.name_at(facts, position) {

@@ -54,7 +54,7 @@ fn search_statement<'c>(
             search(facts, sinks, owner, condition)?;
             search_option(facts, sinks, owner, message)
         }
-        StmtKind::Annotated(_, _, value) => search_option(facts, sinks, owner, value),
+        StmtKind::Annotated { value, .. } => search_option(facts, sinks, owner, value),
         StmtKind::Assign(target, value) => {
             search(facts, sinks, owner, value)?;
             search_target(facts, sinks, owner, target)
@@ -64,7 +64,7 @@ fn search_statement<'c>(
             search(facts, sinks, owner, condition)?;
             search_suite(facts, sinks, owner, body)
         }
-        StmtKind::For(_, iterable, body) => {
+        StmtKind::For { iterable, body, .. } => {
             search(facts, sinks, owner, iterable)?;
             search_suite(facts, sinks, owner, body)
         }
@@ -124,8 +124,12 @@ fn search_target<'c>(
 {
     match target {
         Target::Name(_) => Ok(()),
-        Target::Attribute(_, object, _) => search(facts, sinks, owner, object),
-        Target::Index(_, object, index) => {
+        Target::Attribute { object, .. } => search(facts, sinks, owner, object),
+        Target::Index {
+            object,
+            key: index,
+            ..
+        } => {
             search(facts, sinks, owner, object)?;
             search(facts, sinks, owner, index)
         }
@@ -170,20 +174,31 @@ fn search_parts<'c>(
         Expr::Not(_, operand) => search(facts, sinks, owner, operand),
         Expr::IsNone(_, operand) => search(facts, sinks, owner, operand),
         Expr::IsNotNone(_, operand) => search(facts, sinks, owner, operand),
-        Expr::Attribute(_, object, _) => search(facts, sinks, owner, object),
-        Expr::Binary(_, _, left, right) => {
+        Expr::Attribute { object, .. } => search(facts, sinks, owner, object),
+        Expr::Binary { left, right, .. } => {
             search(facts, sinks, owner, left)?;
             search(facts, sinks, owner, right)
         }
-        Expr::Compare(_, _, left, right) => {
+        Expr::Compare { left, right, .. } => {
             search(facts, sinks, owner, left)?;
             search(facts, sinks, owner, right)
         }
-        Expr::And(_, left, right) | Expr::Or(_, left, right) | Expr::Index(_, left, right) => {
+        Expr::And { left, right, .. }
+        | Expr::Or { left, right, .. }
+        | Expr::Index {
+            object: left,
+            key: right,
+            ..
+        } => {
             search(facts, sinks, owner, left)?;
             search(facts, sinks, owner, right)
         }
-        Expr::Call(_, callee, arguments, keywords) => {
+        Expr::Call {
+            callee,
+            arguments,
+            keywords,
+            ..
+        } => {
             search(facts, sinks, owner, callee)?;
             search_each(facts, sinks, owner, arguments)?;
             search_values(facts, sinks, owner, keywords)

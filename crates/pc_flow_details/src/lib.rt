@@ -3,6 +3,7 @@
 
 mod argument_sinks;
 mod expression_sinks;
+mod locals;
 mod sink;
 mod sinks;
 mod stores;

@@ -8,18 +8,21 @@ ghost use Rattle.pc_types.specs.Join.{same_tree};
 ghost use Rattle.pc_annotations.specs.Text.{class_text};
 ghost use Rattle.pc_notes.specs.Notes.{pair_shown};
 ghost use Rattle.pc_detail_texts.specs.Details as detail;
-ghost use Rattle.pc_detail_texts.specs.Mapped.{map_detail, map_sink};
+ghost use Rattle.pc_detail_texts.specs.Mapped.{map_sink};
 ghost use Rattle.pc_detail_texts.specs.Shortened.{shortened};
 ghost use Rattle.pc_detail_texts.specs.Shown.{sink_of_value, words};
+ghost use Rattle.pc_detail_facts.specs.Annotated.{annotation_lent};
 ghost use Rattle.pc_detail_facts.specs.Callees.{IsHeldCalled};
 ghost use Rattle.pc_flow_details.specs.Goes.{IsHeldSink, sink_at_held, sink_held, sink_of_callee};
 ghost use Rattle.pc_detail_facts.specs.Held.{AreFacts, AreGivenLent, module_held, text_held, tree_lent};
 ghost use Rattle.pc_flow_details.specs.Kept.{first_of_both, flow_kept, flow_of_value, flows_to_sinks, flows_kept};
-ghost use Rattle.pc_detail_rules.specs.Sinks.{flow_among, one_sink, only_sink};
+ghost use Rattle.pc_detail_rules.specs.Sinks.{one_sink, only_sink};
+ghost use Rattle.pc_detail_rules.specs.ToldTypes.{told_among, told_flow};
 
 use pc_detail_facts::{Body, CallTarget, Facts};
 use pc_detail_texts::{Flow, Holder, MemberName, Sink};
 use pc_source::{OutOfMemory, Place};
+use pc_tree::Ann;
 use pc_types::{BoxType, is_same};
 use std::collections::BTreeMap;
 
@@ -44,12 +47,14 @@ pub(crate) enum SinkOf<'c> {
     Sought(&'c BoxType),
 }
 
-/// The sink of a value at a place, and the type that the value flows into, none if it is the only sink there.
+/// The sink of a value at a place, the type that the value flows into, none if it is the only sink there, and the
+/// annotation of the sink, if it has one.
 #[derive(Clone, Copy)]
 pub(crate) struct SinkAt<'t, 'c> {
     pub(crate) place: Place,
     pub(crate) into: Option<&'t BoxType>,
     pub(crate) sink: SinkOf<'c>,
+    pub(crate) written: Option<&'c Ann>,
 }
 
 /// The wrong and the dynamic flows of a module by place, each with its sink.
@@ -125,17 +130,17 @@ fn shown_sink<'c>(facts: &Facts<'c, '_>, sink: SinkOf<'c>) -> Result<Sink, OutOf
 fn flow_words<'c>(
     facts: &Facts<'c, '_>,
     types: &(&'c BoxType, &'c BoxType),
-    sink: SinkOf<'c>,
+    sink: SinkAt<'_, 'c>,
 ) -> Result<Flow, OutOfMemory>
     requires facts { AreFacts facts.now }
     requires types { AreGivenLent types.now }
-    requires held { IsHeldSink sink }
-    ensures { IfOk result (λ flow. flow_of_value flow ≡ map_detail (text_held facts.now)
-        (detail.flow (tree_of types.now.0.now) (tree_of types.now.1.now) (sink_held facts.now sink.entry))) }
+    requires held { IsHeldSink sink.sink }
+    ensures { IfOk result (λ flow. flow_of_value flow ≡ told_flow (module_held facts.now)
+        (tree_of types.now.0.now) (tree_of types.now.1.now) (sink_at_held facts.now sink.entry)) }
 {
     let from = facts.type_words(types.0)?;
-    let into = facts.type_words(types.1)?;
-    let sink = shown_sink(facts, sink)?;
+    let into = facts.target_words(sink.written, types.1)?;
+    let sink = shown_sink(facts, sink.sink)?;
     Ok(Flow { from, into, sink })
 }
 
@@ -150,8 +155,8 @@ fn keep_flow<'c>(
     requires flow { IfSome flow (λ t. AreGivenLent t.now) }
     requires held { IsHeldSink sink.sink }
     ensures { OnOk result ((place : PlaceOf) → flow_kept kept.new place
-        ≡ option_or (flow_kept kept.old place) (option_map (map_detail (text_held facts.now))
-        (flow_among (sink_at_held facts.now sink.entry ∷ []) place (option_map (λ t. pair_shown t.now) flow.entry)))) }
+        ≡ option_or (flow_kept kept.old place) (told_among (module_held facts.now)
+        (sink_at_held facts.now sink.entry ∷ []) place (option_map (λ t. pair_shown t.now) flow.entry))) }
 {
     if kept.contains_key(&sink.place) {
         return Ok(());
@@ -162,13 +167,13 @@ fn keep_flow<'c>(
     if !is_into(types.1, sink.into) {
         return Ok(());
     }
-    let flow = flow_words(facts, types, sink.sink)?;
+    let flow = flow_words(facts, types, sink)?;
     kept.insert(sink.place, flow)?;
     Ok(())
 }
 
 /// Keeps the wrong flow and the dynamic flow at the place of a sink, of those that it takes, unless one is kept there.
-fn add_sink<'c>(
+pub(crate) fn add_sink<'c>(
     facts: &Facts<'c, '_>,
     sinks: &mut Sinks,
     sink: SinkAt<'_, 'c>,
@@ -192,23 +197,31 @@ fn add_sink<'c>(
     )
 }
 
-/// Keeps the flows at a place which has this sink alone.
+/// Keeps the flows at a place which has this sink alone, with its annotation.
 pub(crate) fn add_only<'c>(
     facts: &Facts<'c, '_>,
     sinks: &mut Sinks,
     place: Place,
     sink: SinkOf<'c>,
+    written: Option<&'c Ann>,
 ) -> Result<(), OutOfMemory>
     requires facts { AreFacts facts.now }
     requires held { IsHeldSink sink }
     ensures { OnOk result (flows_kept sinks.new ≡ first_of_both (flows_kept sinks.old)
-        (flows_to_sinks facts.now (only_sink place (sink_held facts.now sink.entry) ∷ []))) }
+        (flows_to_sinks facts.now (only_sink place (sink_held facts.now sink.entry)
+        (option_map annotation_lent written.entry) ∷ []))) }
 {
     let into = None;
-    add_sink(facts, sinks, SinkAt { place, into, sink })
+    let sink = SinkAt {
+        place,
+        into,
+        sink,
+        written,
+    };
+    add_sink(facts, sinks, sink)
 }
 
-/// Keeps the flows at a place into this type, which go into this sink, unless one is kept there.
+/// Keeps the flows at a place into this type, which go into this sink without an annotation, unless one is kept there.
 pub(crate) fn add_into<'c>(
     facts: &Facts<'c, '_>,
     sinks: &mut Sinks,
@@ -221,8 +234,13 @@ pub(crate) fn add_into<'c>(
     ensures { OnOk result (flows_kept sinks.new ≡ first_of_both (flows_kept sinks.old)
         (flows_to_sinks facts.now (one_sink place (sink_held facts.now sink.entry) (tree_of into.now) ∷ []))) }
 {
-    let into = Some(into);
-    add_sink(facts, sinks, SinkAt { place, into, sink })
+    let sink = SinkAt {
+        place,
+        into: Some(into),
+        sink,
+        written: None,
+    };
+    add_sink(facts, sinks, sink)
 }
 
 /// Returns whether a type is the one that a value flows into; any type is where there is only one sink.

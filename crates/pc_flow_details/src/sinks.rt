@@ -8,22 +8,26 @@ ghost use Rattle.pc_tree.specs.Tree.{class_of, constant_of, member_of, option_ex
 ghost use Rattle.pc_tree.specs.Tree.{stmts_of_list};
 ghost use Rattle.pc_scope.specs.declared.resolution.Owner.TheVariants as owners;
 ghost use Rattle.pc_scope.specs.Bindings.{bodies as bodies_in, classes_in, constants_in};
-ghost use Rattle.pc_detail_texts.specs.Mapped.{map_detail};
 ghost use Rattle.pc_flow_details.specs.Goes.{IsHeldSink, sink_held};
-ghost use Rattle.pc_detail_facts.specs.Held.{AreFacts, body_of, known_held, module_held, text_held};
+ghost use Rattle.pc_detail_facts.specs.Held.{AreFacts, body_of, known_held, module_held};
 ghost use Rattle.pc_flow_details.specs.Kept.{first_of_both, flow_kept, flows_to_sinks, flows_kept, taken_below, taken_in_body};
 ghost use Rattle.pc_detail_rules.specs.Nodes.{function_name, stmts_in, stmts_in_branches, stmts_in_suite};
-ghost use Rattle.pc_detail_rules.specs.Sinks.{default_sink, default_of_field, flow_detail};
+ghost use Rattle.pc_flow_details.specs.Locals.{AreLocals};
+ghost use Rattle.pc_detail_facts.specs.Annotated.{annotation_lent};
+ghost use Rattle.pc_detail_rules.specs.Sinks.{default_sink, default_of_field, sinks_of};
+ghost use Rattle.pc_detail_rules.specs.ToldTypes.{told_among};
+ghost use Rattle.pc_detail_rules.specs.Written.{annotated_locals};
 ghost use Rattle.pc_detail_rules.specs.Sinks.{parameter_default, sinks_of_body, sinks_of_class};
 ghost use Rattle.pc_detail_rules.specs.Sinks.{sinks_of_constant, sinks_of_stmt, value_place};
 
 use crate::expression_sinks::{search, search_suite};
+use crate::locals::LocalAnnotations;
 use crate::sink::{SinkOf, Sinks, add_only};
 use crate::stores::add_assigned;
-use pc_detail_facts::{Body, Facts};
+use pc_detail_facts::{Body, Facts, option_ann};
 use pc_scope::Owner;
 use pc_source::{OutOfMemory, Place};
-use pc_tree::{Branch, ClassDef, Constant, Expr, Literal, Member, Param, Stmt, StmtKind};
+use pc_tree::{Ann, Branch, ClassDef, Constant, Expr, Literal, Member, Param, Stmt, StmtKind};
 use std::collections::BTreeMap;
 
 impl Sinks {
@@ -32,9 +36,11 @@ impl Sinks {
         requires facts { AreFacts facts.now }
         requires bodies { map body_of bodies.now ≡ bodies_in (module_held facts.now) }
         ensures wrong { IfOk result (λ s. (place : PlaceOf) → flow_kept s.wrong place
-            ≡ option_map (map_detail (text_held facts.now)) (flow_detail (module_held facts.now) (known_held facts.now) E12 place)) }
+            ≡ told_among (module_held facts.now) (sinks_of (module_held facts.now) (known_held facts.now)) place
+            ((known_held facts.now).flows E12 place)) }
         ensures dynamic { IfOk result (λ s. (place : PlaceOf) → flow_kept s.dynamic place
-            ≡ option_map (map_detail (text_held facts.now)) (flow_detail (module_held facts.now) (known_held facts.now) A1 place)) }
+            ≡ told_among (module_held facts.now) (sinks_of (module_held facts.now) (known_held facts.now)) place
+            ((known_held facts.now).flows A1 place)) }
     {
         let wrong = BTreeMap::new(facts.alloc);
         let dynamic = BTreeMap::new(facts.alloc);
@@ -72,7 +78,8 @@ fn add_constant<'c>(
         (flows_to_sinks facts.now (sinks_of_constant (constant_of constant.now)))) }
 {
     let sink = SinkOf::Constant(constant.name.text.as_str());
-    add_only(facts, sinks, constant.value.place(), sink)
+    let written = option_ann(&constant.annotation);
+    add_only(facts, sinks, constant.value.place(), sink, written)
 }
 
 /// Adds the sinks of the defaults of fields.
@@ -117,27 +124,29 @@ fn add_member<'c>(
     match member {
         Member::Field(field) => {
             let sink = SinkOf::FieldDefault(class.name.text.as_str(), field.name.text.as_str());
-            add_default(facts, sinks, &field.default, sink)
+            add_default(facts, sinks, &field.default, sink, Some(&field.annotation))
         }
         Member::Method(_) => Ok(()),
     }
 }
 
-/// Adds the sink of a default, if there is one.
+/// Adds the sink of a default, if there is one, with its annotation.
 #[tactic(auto, using(crate::proofs::Stored::literal_at))]
 fn add_default<'c>(
     facts: &Facts<'c, '_>,
     sinks: &mut Sinks,
     default: &Option<Literal>,
     sink: SinkOf<'c>,
+    written: Option<&'c Ann>,
 ) -> Result<(), OutOfMemory>
     requires facts { AreFacts facts.now }
     requires held { IsHeldSink sink }
     ensures { OnOk result (flows_kept sinks.new ≡ first_of_both (flows_kept sinks.old) (flows_to_sinks facts.now
-        (default_sink (sink_held facts.now sink.entry) (option_literal_of default.now)))) }
+        (default_sink (sink_held facts.now sink.entry) (option_map annotation_lent written.entry)
+        (option_literal_of default.now)))) }
 {
     match default {
-        Some(literal) => add_only(facts, sinks, literal.place, sink),
+        Some(literal) => add_only(facts, sinks, literal.place, sink, written),
         None => Ok(()),
     }
 }
@@ -169,7 +178,8 @@ fn add_function<'c>(
         (flows_to_sinks facts.now (sinks_of_body (module_held facts.now) (known_held facts.now) (body_of body.entry)))) }
 {
     add_parameters(facts, sinks, body, &body.function.params)?;
-    add_suite(facts, sinks, body, &body.function.body)
+    let locals = LocalAnnotations::of(facts.alloc, body.function)?;
+    add_suite(facts, sinks, body, &locals, &body.function.body)
 }
 
 /// Adds the sinks of the defaults of the parameters of a function.
@@ -202,7 +212,8 @@ fn add_parameter<'c>(
         (parameter_default (function_name (module_held facts.now) (body_of body.entry)) (param_of param.now)))) }
 {
     let sink = SinkOf::ParameterDefault(body, param.name.text.as_str());
-    add_default(facts, sinks, &param.default, sink)
+    let written = option_ann(&param.annotation);
+    add_default(facts, sinks, &param.default, sink, written)
 }
 
 /// Adds the sinks of the statements of a suite.
@@ -211,16 +222,17 @@ fn add_suite<'c>(
     facts: &Facts<'c, '_>,
     sinks: &mut Sinks,
     body: Body<'c>,
+    locals: &LocalAnnotations<'c>,
     suite: &'c [Stmt],
 ) -> Result<(), OutOfMemory>
-    requires { AreFacts facts.now }
+    requires facts { AreFacts facts.now }
+    requires locals { AreLocals locals.now (annotated_locals (body_of body).function) }
     ensures { OnOk result (flows_kept sinks.new ≡ first_of_both (flows_kept sinks.old) (flows_to_sinks facts.now
-        (flat_map (sinks_of_stmt (module_held facts.now) (known_held facts.now)
-        (function_name (module_held facts.now) (body_of body.entry)))
+        (flat_map (sinks_of_stmt (module_held facts.now) (known_held facts.now) (body_of body.entry))
         (stmts_in_suite (stmts_of_list suite.now))))) }
 {
     for statement in suite {
-        add_nested(facts, sinks, body, statement)?;
+        add_nested(facts, sinks, body, locals, statement)?;
     }
     Ok(())
 }
@@ -231,17 +243,18 @@ fn add_nested<'c>(
     facts: &Facts<'c, '_>,
     sinks: &mut Sinks,
     body: Body<'c>,
+    locals: &LocalAnnotations<'c>,
     statement: &'c Stmt,
 ) -> Result<(), OutOfMemory>
-    requires { AreFacts facts.now }
+    requires facts { AreFacts facts.now }
+    requires locals { AreLocals locals.now (annotated_locals (body_of body).function) }
     ensures { OnOk result (flows_kept sinks.new ≡ first_of_both (flows_kept sinks.old) (flows_to_sinks facts.now
-        (flat_map (sinks_of_stmt (module_held facts.now) (known_held facts.now)
-        (function_name (module_held facts.now) (body_of body.entry))) (stmts_in (stmt_of statement.now))))) }
+        (flat_map (sinks_of_stmt (module_held facts.now) (known_held facts.now) (body_of body.entry)) (stmts_in (stmt_of statement.now))))) }
 {
-    add_statement(facts, sinks, body, statement)?;
+    add_statement(facts, sinks, body, locals, statement)?;
     let (branches, last) = statement.kind.suites();
-    add_branches(facts, sinks, body, branches)?;
-    add_suite(facts, sinks, body, last)
+    add_branches(facts, sinks, body, locals, branches)?;
+    add_suite(facts, sinks, body, locals, last)
 }
 
 /// Adds the sinks of the statements of branches.
@@ -250,16 +263,17 @@ fn add_branches<'c>(
     facts: &Facts<'c, '_>,
     sinks: &mut Sinks,
     body: Body<'c>,
+    locals: &LocalAnnotations<'c>,
     branches: &'c [Branch],
 ) -> Result<(), OutOfMemory>
-    requires { AreFacts facts.now }
+    requires facts { AreFacts facts.now }
+    requires locals { AreLocals locals.now (annotated_locals (body_of body).function) }
     ensures { OnOk result (flows_kept sinks.new ≡ first_of_both (flows_kept sinks.old) (flows_to_sinks facts.now
-        (flat_map (sinks_of_stmt (module_held facts.now) (known_held facts.now)
-        (function_name (module_held facts.now) (body_of body.entry)))
+        (flat_map (sinks_of_stmt (module_held facts.now) (known_held facts.now) (body_of body.entry))
         (stmts_in_branches (branches_of_list branches.now))))) }
 {
     for branch in branches {
-        add_suite(facts, sinks, body, &branch.body)?;
+        add_suite(facts, sinks, body, locals, &branch.body)?;
     }
     Ok(())
 }
@@ -269,26 +283,38 @@ fn add_statement<'c>(
     facts: &Facts<'c, '_>,
     sinks: &mut Sinks,
     body: Body<'c>,
+    locals: &LocalAnnotations<'c>,
     statement: &'c Stmt,
 ) -> Result<(), OutOfMemory>
-    requires { AreFacts facts.now }
+    requires facts { AreFacts facts.now }
+    requires locals { AreLocals locals.now (annotated_locals (body_of body).function) }
     ensures { OnOk result (flows_kept sinks.new ≡ first_of_both (flows_kept sinks.old) (flows_to_sinks facts.now
-        (sinks_of_stmt (module_held facts.now) (known_held facts.now)
-        (function_name (module_held facts.now) (body_of body.entry)) (stmt_of statement.now)))) }
+        (sinks_of_stmt (module_held facts.now) (known_held facts.now) (body_of body.entry) (stmt_of statement.now)))) }
 {
     match &statement.kind {
         StmtKind::Return(value) => {
             let place = value_place(statement.first, value);
-            add_only(facts, sinks, place, SinkOf::Return(body))
+            let written = option_ann(&body.function.returns);
+            add_only(facts, sinks, place, SinkOf::Return(body), written)
         }
-        StmtKind::Annotated(name, _, value) => {
+        StmtKind::Annotated {
+            target: name,
+            value,
+            ..
+        } => {
             let place = value_place(statement.first, value);
-            add_only(facts, sinks, place, SinkOf::Local(name.text.as_str()))
+            let name = name.text.as_str();
+            add_only(facts, sinks, place, SinkOf::Local(name), locals.get(name))
         }
-        StmtKind::Assign(target, value) => add_assigned(facts, sinks, target, value),
-        StmtKind::For(name, iterable, _) => {
-            let sink = SinkOf::LoopTarget(name.text.as_str());
-            add_only(facts, sinks, iterable.place(), sink)
+        StmtKind::Assign(target, value) => add_assigned(facts, sinks, locals, target, value),
+        StmtKind::For {
+            target: name,
+            iterable,
+            ..
+        } => {
+            let name = name.text.as_str();
+            let sink = SinkOf::LoopTarget(name);
+            add_only(facts, sinks, iterable.place(), sink, locals.get(name))
         }
         StmtKind::Pass | StmtKind::Break | StmtKind::Continue => Ok(()),
         StmtKind::Assert(_, _) | StmtKind::Expr(_) => Ok(()),

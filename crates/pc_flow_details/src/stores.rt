@@ -1,44 +1,55 @@
 //! The sinks of assigned values: of locals, fields, items, keys and values.
 
 ghost use Rattle.std.specs.Prelude.{◌≡◌, OnOk, flat_map};
-ghost use Rattle.pc_tree.specs.Tree.{expr_of, target_of};
+ghost use Rattle.pc_tree.specs.Tree.{FuncDef as FuncOf, expr_of, target_of};
 ghost use Rattle.pc_types.specs.Boxed.{tree_of, IsGiven};
 ghost use Rattle.pc_types.specs.Shape.{members};
 ghost use Rattle.pc_detail_facts.specs.Held.{AreFacts, known_held, module_held};
 ghost use Rattle.pc_flow_details.specs.Kept.{first_of_both, flows_to_sinks, flows_kept};
+ghost use Rattle.pc_flow_details.specs.Locals.{AreLocals};
 ghost use Rattle.pc_detail_rules.specs.Sinks.{assigned_sinks, field_store, item_store};
+ghost use Rattle.pc_detail_rules.specs.Written.{annotated_locals};
 
-use crate::sink::{SinkOf, Sinks, add_into, add_only};
+use crate::locals::LocalAnnotations;
+use crate::sink::{SinkAt, SinkOf, Sinks, add_into, add_only, add_sink};
 use pc_detail_facts::{Facts, members_of_type};
 use pc_source::{OutOfMemory, Place};
 use pc_tree::{Expr, Target};
 use pc_types::BoxType;
 
-/// Adds the sinks of an assigned value, and of the index of its target.
+/// Adds the sinks of a value that a function with these locals assigns, and of the index of its target.
 pub(crate) fn add_assigned<'c>(
     facts: &Facts<'c, '_>,
     sinks: &mut Sinks,
+    locals: &LocalAnnotations<'c>,
     target: &'c Target,
     value: &'c Expr,
 ) -> Result<(), OutOfMemory>
     requires { AreFacts facts.now }
-    ensures { OnOk result (flows_kept sinks.new ≡ first_of_both (flows_kept sinks.old) (flows_to_sinks facts.now
-        (assigned_sinks (module_held facts.now) (known_held facts.now) (target_of target.now) (expr_of value.now)))) }
+    ensures { (f : FuncOf) → AreLocals locals.now (annotated_locals f)
+        → OnOk result (flows_kept sinks.new ≡ first_of_both (flows_kept sinks.old) (flows_to_sinks facts.now
+        (assigned_sinks (module_held facts.now) (known_held facts.now) f (target_of target.now) (expr_of value.now)))) }
 {
     match target {
         Target::Name(name) => {
+            let name = name.text.as_str();
             add_only(
                 facts,
                 sinks,
                 value.place(),
-                SinkOf::Local(name.text.as_str()),
+                SinkOf::Local(name),
+                locals.get(name),
             )
         }
-        Target::Attribute(_, object, name) => {
+        Target::Attribute { object, name, .. } => {
             let ty = facts.type_at(object.place());
             add_field_stores(facts, sinks, value.place(), ty, name.text.as_str())
         }
-        Target::Index(_, object, index) => {
+        Target::Index {
+            object,
+            key: index,
+            ..
+        } => {
             let ty = facts.type_at(object.place());
             add_item_stores(facts, sinks, index.place(), value.place(), ty)
         }
@@ -82,7 +93,15 @@ fn add_field_store<'c>(
         return Ok(());
     };
     match facts.field_named(*class, name) {
-        Some(field) => add_into(facts, sinks, place, &field.ty, SinkOf::Field(*class, name)),
+        Some(field) => {
+            let sink = SinkAt {
+                place,
+                into: Some(&field.ty),
+                sink: SinkOf::Field(*class, name),
+                written: facts.field_annotation(*class, name),
+            };
+            add_sink(facts, sinks, sink)
+        }
         None => Ok(()),
     }
 }

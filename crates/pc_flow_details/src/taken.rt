@@ -37,7 +37,12 @@ pub(crate) fn add_taken<'c>(
     match expr {
         Expr::List(place, items) => add_listed(facts, sinks, facts.type_at(*place), items),
         Expr::Dict(place, entries) => add_entries(facts, sinks, facts.type_at(*place), entries),
-        Expr::Compare(_, operator, left, right) => {
+        Expr::Compare {
+            operator,
+            left,
+            right,
+            ..
+        } => {
             add_compared(
                 facts,
                 sinks,
@@ -46,19 +51,26 @@ pub(crate) fn add_taken<'c>(
                 facts.type_at(right.place()),
             )
         }
-        Expr::Index(_, object, index) => {
-            add_index(facts, sinks, index, facts.type_at(object.place()))
-        }
-        Expr::Call(_, callee, arguments, keywords) => {
+        Expr::Index {
+            object,
+            key: index,
+            ..
+        } => { add_index(facts, sinks, index, facts.type_at(object.place())) }
+        Expr::Call {
+            callee,
+            arguments,
+            keywords,
+            ..
+        } => {
             let called = callees_of(facts, owner, arguments.len(), callee)?;
             add_positional(facts, sinks, &called, arguments)?;
             add_named(facts, sinks, &called, keywords)
         }
         Expr::Name(_) | Expr::Int(_, _) | Expr::Str(_, _) | Expr::Tuple(_, _) => Ok(()),
         Expr::True(_) | Expr::False(_) | Expr::NoneValue(_) => Ok(()),
-        Expr::Negative(_, _) | Expr::Not(_, _) | Expr::Attribute(_, _, _) => Ok(()),
-        Expr::IsNone(_, _) | Expr::IsNotNone(_, _) | Expr::Binary(_, _, _, _) => Ok(()),
-        Expr::And(_, _, _) | Expr::Or(_, _, _) => Ok(()),
+        Expr::Negative(_, _) | Expr::Not(_, _) | Expr::Attribute { .. } => Ok(()),
+        Expr::IsNone(_, _) | Expr::IsNotNone(_, _) | Expr::Binary { .. } => Ok(()),
+        Expr::And { .. } | Expr::Or { .. } => Ok(()),
     }
 }
 

@@ -149,8 +149,8 @@ module _ (text : List ℕ) (is_text : IsText text) (lines : Lines) (left : (item
 -- the result of a parser over the tokens
 module _ (text : List ℕ) (is_text : IsText text) (lines : Lines) (left : (items : List (Result LogicalLine Refusal))
     → HasLeft lines items → HasLines text items)
-    {T : Type 0} (next : T → Option TokenItem → T → Type 0) (toks : T) (lays : LaysOut gives next text lines toks) where
-  pub read_module : (m : Module) → IsRead (λ (b : Bor (List ℕ)). b.now) next toks m → IsModuleOf text m
+    {T : Type 0} (next : T → Option TokenItem → T → Type 0) (iterator : T) (lays : LaysOut gives next text lines iterator) where
+  pub read_module : (m : Module) → IsRead (λ (b : Bor (List ℕ)). b.now) next iterator m → IsModuleOf text m
   read_module m h =
       let l = lays (map Ok h.tokens) h.came in
       record {
@@ -159,8 +159,8 @@ module _ (text : List ℕ) (is_text : IsText text) (lines : Lines) (left : (item
         spelled = h.is;
       }
 
-  pub refused_module : (r : Refusal) → IsRefusedByTokens (λ (b : Bor (List ℕ)). b.now) next toks r
-      ⊎ IsFaulty (λ (b : Bor (List ℕ)). b.now) next toks (Refused r) → IsRefusalOf text r
+  pub refused_module : (r : Refusal) → IsRefusedByTokens (λ (b : Bor (List ℕ)). b.now) next iterator r
+      ⊎ IsFaulty (λ (b : Bor (List ℕ)). b.now) next iterator (Refused r) → IsRefusalOf text r
   refused_module r (inl h) =
       let l = lays (map Ok h.tokens) h.came in
       of_grammar (record {
@@ -172,14 +172,14 @@ module _ (text : List ℕ) (is_text : IsText text) (lines : Lines) (left : (item
   refused_module r (inr h) = let l = lays (map Ok h.tokens ++ Err (Refused r) ∷ []) h.came in
       refused_before text is_text lines left l.0 l.1 h.tokens r l.2
 
-  pub reads : (r : Result RustModule Fault) → IfOk r (λ m. IsRead (λ (b : Bor (List ℕ)). b.now) next toks (module_of m))
+  pub reads : (r : Result RustModule Fault) → IfOk r (λ m. IsRead (λ (b : Bor (List ℕ)). b.now) next iterator (module_of m))
       → IfOk r (λ m. IsModuleOf text (module_of m))
   reads (Ok m) h = read_module (module_of m) h
   reads (Err e) h = tt
 
   pub refuses : (r : Result RustModule Fault)
-      → IfErr r (OnRefusal (λ q. IsRefusedByTokens (λ (b : Bor (List ℕ)). b.now) next toks q
-      ⊎ IsFaulty (λ (b : Bor (List ℕ)). b.now) next toks (Refused q))) → IfErr r (OnRefusal (IsRefusalOf text))
+      → IfErr r (OnRefusal (λ q. IsRefusedByTokens (λ (b : Bor (List ℕ)). b.now) next iterator q
+      ⊎ IsFaulty (λ (b : Bor (List ℕ)). b.now) next iterator (Refused q))) → IfErr r (OnRefusal (IsRefusalOf text))
   refuses (Ok m) h = tt
   refuses (Err (Refused q)) h = refused_module q h
   refuses (Err OutOfMemory) h = tt

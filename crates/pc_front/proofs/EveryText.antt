@@ -18,7 +18,7 @@ use Rattle.pc_layout.proofs.Verdicts.{verdict, laid_out, laid_wrong, refused_giv
 use Rattle.pc_tree.specs.Tree.{Module}
 use Rattle.pc_tree.specs.Depth.{too_deep_at}
 use Rattle.pc_grammar.specs.Grammar.{last_place}
-use Rattle.pc_grammar.specs.Machine.{Outcome, reads, refuses, short, outcome_of}
+use Rattle.pc_grammar.specs.Machine.{ReadOutcome, reads, refuses, short, outcome_of}
 use Rattle.pc_grammar.proofs.Front.{misfit, ends_early}
 use Rattle.pc_grammar.proofs.Sound.{reads_spells}
 use Rattle.pc_front.specs.Bytes.{IsLined, IsLaidOut, IsModuleOf, IsRefusalOf, of_source, of_tokens, of_layout}
@@ -77,7 +77,7 @@ module _ (bytes : List ℕ) (no_module : (m : Module) → ¬ (IsModuleOf bytes m
     refused = inr (refl, record { tree = m; spelled = reads_spells tokens m e; first = deep });
   }))
 
-  by_outcome : (tokens : List Lexeme) → IsLaidOut bytes tokens → (outcome : Outcome) → outcome_of tokens ≡ outcome
+  by_outcome : (tokens : List Lexeme) → IsLaidOut bytes tokens → (outcome : ReadOutcome) → outcome_of tokens ≡ outcome
       → ⊥
   by_outcome tokens laid (reads m) e = by_depth tokens laid m e (too_deep_at m) refl
   by_outcome tokens laid (refuses byte) e = no_refusal (record { code = G1; byte = byte }) (of_grammar (record {

@@ -31,7 +31,7 @@ use Rattle.pc_grammar.specs.Machine.States.{on}
 use Rattle.pc_grammar.specs.Machine.Finishing.{add_item, after_def, after_class, param, field}
 use Rattle.pc_grammar.specs.Machine.Lines.{start, module_of, no_top, takes_dataclasses, takes_header, due, params_of}
 use Rattle.pc_grammar.specs.Machine.{transition, at, read_tokens, reads, outcome_of}
-use Rattle.pc_grammar.specs.Fronts.Lines.{is_method}
+use Rattle.pc_grammar.specs.Fronts.Lines.{is_in_class}
 use Rattle.pc_grammar.proofs.Runs.{run_go, run_none}
 use Rattle.pc_grammar.proofs.Sequences.{Reads, Any, reads_and, reads_any, reads_just, token_run, to_right, map_right}
 use Rattle.pc_grammar.proofs.CompleteStatements.{reads_map, reads_to, no_front, shift_right, reads_name_as}
@@ -231,7 +231,7 @@ fixed_form f ws next t e same = ap (λ z. on (bytes_eq z f) (due ws next) stuck)
 
 -- from the parenthesis on
 reads_parameters : (owner : FunctionOwner) (d : DefStart) (ps : List Param) {H X : Spelling} {final : State}
-    → Reads H X (params_read d ps) final → Reads H (Sign sign.LeftParenthesis ⟫ Parameters (is_method owner) ps ⟫ Sign
+    → Reads H X (params_read d ps) final → Reads H (Sign sign.LeftParenthesis ⟫ Parameters (is_in_class owner) ps ⟫ Sign
     sign.RightParenthesis ⟫ X) (params_of owner d) final
 reads_parameters (of_module top) d ps r = reads_and (reads_just (kind.Operator sign.LeftParenthesis) (λ t. refl))
     (reads_params ps d [] r)
@@ -261,7 +261,7 @@ DefRest method f = IsName f.name ⟫ Sign sign.LeftParenthesis ⟫ Parameters me
     ⟫ Maybe (λ a. Sign sign.Arrow ⟫ Annotation a) f.returns ⟫ Suite (SpellsStmts f.body)
 
 reads_def : (owner : FunctionOwner) (first : Place) (f : FuncDef) {H : Spelling}
-    → Reads H (DefRest (is_method owner) f) (def_due owner first) (after_def owner first f)
+    → Reads H (DefRest (is_in_class owner) f) (def_due owner first) (after_def owner first f)
 reads_def owner first f =
     reads_and (reads_name_as f.name (λ m. params_of owner (record { owner = owner; first = first; name = m }))
     (λ t. refl))

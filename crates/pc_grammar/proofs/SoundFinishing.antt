@@ -29,7 +29,7 @@ use Rattle.pc_grammar.specs.Machine.Finishing.{target_of_tree, if_plain, begin_v
 use Rattle.pc_grammar.specs.Machine.Finishing.{finish_line, at_line_end, at_colon, finish_stmt, param, param_end}
 use Rattle.pc_grammar.specs.Machine.Finishing.{param_more, field, finish_literal}
 use Rattle.pc_grammar.specs.Fronts.{LedTo}
-use Rattle.pc_grammar.specs.Fronts.Lines.{JustAt, Opening, BeforeItems, BeforeMembers, EachParam, ParamsOf, is_method}
+use Rattle.pc_grammar.specs.Fronts.Lines.{JustAt, Opening, BeforeItems, BeforeMembers, EachParam, ParamsOf, is_in_class}
 use Rattle.pc_grammar.specs.Fronts.Lines.{BeforeParams, BeforeParam, BeforeLiteral, EachStmt, BeforeNest, BeforeBlock}
 use Rattle.pc_grammar.specs.Fronts.Lines.{BeforeStmts, BeforeContext}
 use Rattle.pc_grammar.specs.Fronts.Expressions.{Holds}
@@ -148,13 +148,13 @@ params_of_add (of_class c ms) ps p us w = map_right (λ vs v. map_right (λ ws z
     (to_right w)
 
 params_of_last : (owner : FunctionOwner) (ps : List Param) (p : Param) (us : List Lexeme)
-    → Sequence (ParamsOf owner ps) (SpellsParam p) us → Parameters (is_method owner) (ps ++ (p ∷ [])) us
+    → Sequence (ParamsOf owner ps) (SpellsParam p) us → Parameters (is_in_class owner) (ps ++ (p ∷ [])) us
 params_of_last (of_module top) ps p us w = params_last ps p us w
 params_of_last (of_class c ms) ps p us w = map_right (λ vs v.
     inl (map_right (λ ws z. params_last ps p ws z) (to_right v))) (to_right w)
 
 pub params_of_all : (owner : FunctionOwner) (ps : List Param) (us : List Lexeme) → ParamsOf owner ps us
-    → Parameters (is_method owner) ps us
+    → Parameters (is_in_class owner) ps us
 params_of_all (of_module top) ps us h = params_all ps us h
 params_of_all (of_class c ms) ps us w = map_right (λ vs v. inl (map_right (λ ws z. params_all ps ws z) v)) w
 

@@ -45,7 +45,7 @@ use Rattle.pc_grammar.specs.Machine.Lines.{end_suite, line_ends, lead_turn, stmt
 use Rattle.pc_grammar.specs.Machine.Lines.{closed_branches, branch_turn}
 use Rattle.pc_grammar.specs.Fronts.{LedTo}
 use Rattle.pc_grammar.specs.Fronts.Lines.{Kept, WordAt, SignAt, SelfRead, Opening, AtStage, BeforeItems, ClassName}
-use Rattle.pc_grammar.specs.Fronts.Lines.{ClassHead, BeforeMembers, BeforeOwner, DefWord, DefName, ParamsOf, is_method}
+use Rattle.pc_grammar.specs.Fronts.Lines.{ClassHead, BeforeMembers, BeforeOwner, DefWord, DefName, ParamsOf, is_in_class}
 use Rattle.pc_grammar.specs.Fronts.Lines.{IfBranches, BranchWord, BeforeNest, BeforeBlock, BeforeStmts}
 use Rattle.pc_grammar.proofs.SameKind.{same_kind_is}
 use Rattle.pc_grammar.proofs.Sequences.{to_right, to_left, map_left, map_right}
@@ -91,14 +91,14 @@ words_stand w ws next ts h f us g = f (ts ++ us) (record { front = ts; back = us
 -- ---- suites that end
 
 def_whole : (d : DefStart) (ps : List Param) {Y : Spelling} (us : List Lexeme)
-    → Sequence (DefName d ⟫ (Parameters (is_method d.owner) ps ⟫ Sign sign.RightParenthesis)) Y us
-    → Sequence (DefWord d.owner d.first) (IsName d.name ⟫ Sign sign.LeftParenthesis ⟫ Parameters (is_method d.owner) ps
+    → Sequence (DefName d ⟫ (Parameters (is_in_class d.owner) ps ⟫ Sign sign.RightParenthesis)) Y us
+    → Sequence (DefWord d.owner d.first) (IsName d.name ⟫ Sign sign.LeftParenthesis ⟫ Parameters (is_in_class d.owner) ps
     ⟫ Sign sign.RightParenthesis ⟫ Y) us
 def_whole d ps us w = to_right (to_right (map_right (λ vs v. to_right v) (to_right w)))
 
 def_done : (owner : FunctionOwner) (first : Place) (f : FuncDef) (ts : List Lexeme)
     → Sequence (BeforeOwner owner) (DefWord owner first ⟫ IsName f.name ⟫ Sign sign.LeftParenthesis ⟫ Parameters
-    (is_method owner) f.params ⟫ Sign sign.RightParenthesis
+    (is_in_class owner) f.params ⟫ Sign sign.RightParenthesis
     ⟫ Maybe (λ a. Sign sign.Arrow ⟫ Annotation a) f.returns ⟫ Suite (SpellsStmts f.body)) ts
     → LedTo (after_def owner first f) ts
 def_done (of_module top) first f ts w = (
@@ -491,7 +491,7 @@ self_owner d (of_class c ms) is t ts w = on_kind t (kind.Operator sign.Comma) _ 
     (to_right (grow {B = Sign sign.Comma} ts t w (just t _ e))))
     (on_kind t (kind.Operator sign.RightParenthesis) _ _ (ts ++ (t ∷ []))
     (λ e. map_right
-    (λ us v. map_right (λ vs z. map_left (λ ws x. subst (λ o. Parameters (is_method o) [] ws) (sym is)
+    (λ us v. map_right (λ vs z. map_left (λ ws x. subst (λ o. Parameters (is_in_class o) [] ws) (sym is)
     (map_right (λ xs1 y. inr (refl, y)) (end_nothing ws x))) z) (to_right v))
     (to_right (grow {B = Sign sign.RightParenthesis} ts t w (just t _ e)))) tt)
 

@@ -87,26 +87,26 @@ step (at s) t = arrive (transition s t t.kind) t
 step (lost byte) t = lost byte
 
 -- the outcome of a reading: a module, a token after which no module can follow, or tokens that end too early
-pub data Outcome : Type 0 where
-  reads : (m : Module) → Outcome
-  refuses : (byte : ℕ) → Outcome
-  short : Outcome
+pub data ReadOutcome : Type 0 where
+  reads : (m : Module) → ReadOutcome
+  refuses : (byte : ℕ) → ReadOutcome
+  short : ReadOutcome
 
 -- the outcome of tokens that end in this state: the module if the text has ended, otherwise they end too early
-abbrev pub stop_at : State → Outcome
+abbrev pub stop_at : State → ReadOutcome
 stop_at (ended m) = reads m
 stop_at _ = short
 
 -- the outcome of a reading that no token follows
-abbrev pub stop : Reading → Outcome
+abbrev pub stop : Reading → ReadOutcome
 stop (at s) = stop_at s
 stop (lost byte) = refuses byte
 
 -- the outcome of a reading over these tokens
-unfoldable pub read_tokens : Reading → List Lexeme → Outcome
+unfoldable pub read_tokens : Reading → List Lexeme → ReadOutcome
 read_tokens r [] = stop r
 read_tokens r (t ∷ ts) = read_tokens (step r t) ts
 
 -- the outcome of all tokens of a text
-abbrev pub outcome_of : List Lexeme → Outcome
+abbrev pub outcome_of : List Lexeme → ReadOutcome
 outcome_of ts = read_tokens (at start) ts

@@ -6,7 +6,7 @@ use Rattle.std.specs.List.{slice_get}
 use Rattle.pc_types.specs.Tree.{Tree}
 use Rattle.pc_types.specs.declared.boxed.BoxType.{BoxType}
 use Rattle.pc_intern.specs.Table.{tree_at, basic_types, AreBasic}
-use Rattle.pc_intern.proofs.Standing.{tree_stays}
+use Rattle.pc_intern.proofs.InTable.{tree_stays}
 
 -- kept numbers stay right where types are put after the others
 pub basic_stays : (old more : List BoxType) (numbers : List (Option ℕ)) → AreBasic old numbers

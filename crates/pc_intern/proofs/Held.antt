@@ -25,7 +25,7 @@ use Rattle.pc_intern.specs.declared.table.TypeNode.{TypeNode}
 use Rattle.pc_intern.specs.Table.{tree_at, IsNodeAt, Grows}
 use Rattle.pc_intern.specs.Store.{tree_of_type, number_of, IsInterned, IsRightAt, AreRight, IsJoinedAt, AreJoined}
 use Rattle.pc_intern.proofs.Places.{map_at, at_map, same_items}
-use Rattle.pc_intern.proofs.Standing.{tree_stays, trees_stay}
+use Rattle.pc_intern.proofs.InTable.{tree_stays, trees_stay}
 use Rattle.pc_types.specs.Internal.Rebuilding.{rebuilt}
 use Rattle.pc_types.proofs.Rebuilt.{rebuilt_is}
 

@@ -9,6 +9,5 @@ pub mod NodeCounts
 pub mod Parts
 pub mod Places
 pub mod SameNumbers
-pub mod SameTypes
 pub mod Several
-pub mod Standing
+pub mod InTable

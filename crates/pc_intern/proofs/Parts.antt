@@ -13,7 +13,7 @@ use Rattle.pc_types.specs.declared.boxed.BoxType.TheVariants as ty
 use Rattle.pc_types.proofs.Nodes.{listed_trees}
 use Rattle.pc_intern.specs.Table.{tree_at, Grows}
 use Rattle.pc_intern.proofs.Places.{each_push}
-use Rattle.pc_intern.proofs.Standing.{tree_stays, trees_stay, part_at}
+use Rattle.pc_intern.proofs.InTable.{tree_stays, trees_stay, part_at}
 
 -- an item of several types has no more nodes than these together
 pub item_nodes : (items : List BoxType) (k : ℕ) (x : BoxType) → k < length items → x ≡ get_or items k x

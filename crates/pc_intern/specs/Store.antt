@@ -70,4 +70,4 @@ AddsNothing bases types t n = (u : Tree) → tree_at types n ≡ Some u → unwr
 -- a join in progress is a type that a store may give, and the types noted as changing nothing change nothing
 pub record IsGathered (bases : Bases) (types : List BoxType) (g : Gathered) : Type 0 where
   pub given : IsGiven g.joined
-  pub settled : (n : ℕ) → Contains g.settled.items n → AddsNothing bases types (tree_of g.joined) n
+  pub covered : (n : ℕ) → Contains g.covered.items n → AddsNothing bases types (tree_of g.joined) n

@@ -6,11 +6,10 @@ ghost use Rattle.pc_types.specs.Join.{join};
 ghost use Rattle.pc_types.specs.Boxed.{tree_of};
 ghost use Rattle.pc_intern.specs.Store.{IsGathered, IsInterned, tree_of_type};
 
-use crate::alike::is_alike;
 use crate::store::{InternStore, TypeId};
 use crate::table::Numbers;
 use pc_source::OutOfMemory;
-use pc_types::{BoxStore, BoxType, Parents, TypeStore};
+use pc_types::{BoxStore, BoxType, Parents, TypeStore, is_same};
 use std::alloc::Global;
 
 /// Most numbers kept of the types that change nothing, and of those that were joined before.
@@ -21,7 +20,7 @@ const MANY: usize = 64;
 #[derive(Drop)]
 pub(crate) struct Gathered {
     pub(crate) joined: BoxType,
-    pub(crate) settled: Numbers,
+    pub(crate) covered: Numbers,
     pub(crate) seen: Numbers,
 }
 
@@ -29,11 +28,11 @@ impl Gathered {
     /// Returns the join of no types.
     pub(crate) fn new(alloc: Global) -> Gathered
         ensures joined { tree_of result.joined ≡ Never }
-        ensures settled { result.settled.items ≡ [] }
+        ensures covered { result.covered.items ≡ [] }
     {
         Gathered {
             joined: BoxType::Never,
-            settled: Numbers::new(alloc),
+            covered: Numbers::new(alloc),
             seen: Numbers::new(alloc),
         }
     }
@@ -78,7 +77,7 @@ impl InternStore {
         ensures value { IfOk result (λ g. tree_of g.joined
             ≡ unwrap_or (join parents.now (tree_of gathered.joined) (tree_of_type ty.now)) Object) }
     {
-        if is_among(&gathered.settled, ty.number) {
+        if is_among(&gathered.covered, ty.number) {
             return Ok(gathered);
         }
         if is_among(&gathered.seen, ty.number) {
@@ -91,10 +90,10 @@ impl InternStore {
         } = gathered;
         note(&mut seen, ty.number)?;
         let joined = BoxStore::new().join_onto(alloc, parents, joined, self.table.ty(ty.number))?;
-        let settled = Numbers::new(alloc);
+        let covered = Numbers::new(alloc);
         Ok(Gathered {
             joined,
-            settled,
+            covered,
             seen,
         })
     }
@@ -115,20 +114,20 @@ impl InternStore {
     {
         let Gathered {
             joined,
-            mut settled,
+            mut covered,
             seen,
         } = gathered;
         let store = BoxStore::new();
         let before = store.copy(alloc, &joined)?;
         let joined = store.join_onto(alloc, parents, joined, self.table.ty(ty.number))?;
-        if is_alike(&joined, &before) {
-            note(&mut settled, ty.number)?;
+        if is_same(&joined, &before) {
+            note(&mut covered, ty.number)?;
         } else {
-            settled.clear();
+            covered.clear();
         }
         Ok(Gathered {
             joined,
-            settled,
+            covered,
             seen,
         })
     }

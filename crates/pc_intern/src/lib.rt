@@ -1,7 +1,6 @@
 //! Types as numbers: a store that has each type tree once.
 #![tactic(auto)]
 
-mod alike;
 mod gathering;
 mod joining;
 mod memo;
@@ -9,5 +8,4 @@ mod sizes;
 mod store;
 mod table;
 
-pub use alike::is_alike;
 pub use store::{InternStore, TypeId};

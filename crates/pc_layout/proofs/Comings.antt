@@ -94,11 +94,11 @@ answers text ls ys h = elim (all_came ls) [
 
 module _ {I : Type 0} (steps : I → Option (Result Line Fault) → I → Type 0) where
   abbrev pub toks_gives : LayoutTokens I → Option (Result (Token (Bor (List ℕ))) Fault) → LayoutTokens I → Type 0
-  toks_gives s r t = gives_next_token steps s.hand s.lines r t.hand t.lines
+  toks_gives s r t = gives_next_token steps s.pending_line s.lines r t.pending_line t.lines
 
   -- the tokens that come are those that are left
   pub comes_left : (s : LayoutTokens I) (xs : List (Result (Token (Bor (List ℕ))) Fault)) → Yields toks_gives s xs
-      → ItemsLeft steps s.hand s.lines (map token_item_of xs)
+      → ItemsLeft steps s.pending_line s.lines (map token_item_of xs)
   comes_left s [] (t, (d, l)) = l
   comes_left s (Ok x ∷ xs) (j, g, cm) = g (map token_item_of xs) (comes_left j xs cm)
   comes_left s (Err e ∷ xs) (q, j, (d, l)) = rw q l

@@ -38,7 +38,7 @@ pub record Gathers (text : List ℕ) (ls : List LogicalLine) (ts : List Lexeme) 
   pub given : layout_lexemes text start items ≡ give ts ys
 
 pub gathers_first : (text : List ℕ) (it : Listed) (s : LayoutTokens Listed) (ys : List (Result Lexeme Fault))
-    → IsAtStart text it s → ItemsLeft gives_line s.hand s.lines ys → Gathers text (lines_left it) [] ys
+    → IsAtStart text it s → ItemsLeft gives_line s.pending_line s.lines ys → Gathers text (lines_left it) [] ys
 gathers_first text it s ys b (inl h) = absurd (let q : true ≡ false = sym (ap asks b.due) ∙ h.0 in cc)
 gathers_first text it s ys b (inr (a, (ks, cm, p))) = record {
   items = map line_item_of ks;

@@ -45,9 +45,9 @@ pub record Returns (x : LayoutContext) (c : ℕ) (p : Placement) : Type 0 where
   pub there : column_of (levels_up_to c x.levels) ≡ c
   pub placed : p ≡ popped x c
 
-data Stands (x : LayoutContext) (c : ℕ) (p : Placement) : Type 0 where
-  opens : Opens x c p → Stands x c p
-  returns : Returns x c p → Stands x c p
+data IsPlaced (x : LayoutContext) (c : ℕ) (p : Placement) : Type 0 where
+  opens : Opens x c p → IsPlaced x c p
+  returns : Returns x c p → IsPlaced x c p
 
 opened_cases : (x : LayoutContext) (c : ℕ) (p : Placement) → column_of x.levels < c → opening_placement x c ≡ Ok p
     → Opens x c p

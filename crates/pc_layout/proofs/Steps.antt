@@ -18,7 +18,7 @@ pub nothing_left : {I : Type 0} (steps : I → Option (Result Line Fault) → I 
 nothing_left steps h it e = inl (ap asks e, ap (λ d. pending_by d h []) e)
 
 module _ {I : Type 0} (steps : I → Option (Result Line Fault) → I → Type 0) where
-  -- a token at hand is taken
+  -- a token of the pending line is taken
   pub takes : (h h' : PendingLine) (it : I) (x : Lexeme) (ys : List (Result Lexeme Fault)) → asks h'.due ≡ asks h.due →
       ((ls : List (Result LogicalLine Fault)) → pending h ls ≡ Ok x ∷ pending h' ls) → ItemsLeft steps h' it ys
       → ItemsLeft steps h it (Ok x ∷ ys)

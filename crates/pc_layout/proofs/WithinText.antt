@@ -210,7 +210,7 @@ module _ {I : Type 0} (steps : I → Option (Result Line Fault) → I → Type 0
       ([], subst (λ x. Yields steps it (Err x ∷ [])) same (refl, t, g))
 
   module _ {T : Type 0} (gives : T → Option (Result (Token (Bor (List ℕ))) Fault) → T → Type 0) (text : List ℕ) (it : I)
-      (toks : T) (lays : LaysOut steps gives text it toks)
+      (iterator : T) (lays : LaysOut steps gives text it iterator)
       (within : RefusesWithin steps (length text) it) (stand : ComesAs steps
       (λ ls. LinesWithin (length text) (map logical_line_of ls)) it) where
     by_fault : (ts : List (Token (Bor (List ℕ)))) (r : Refusal) (ks : List (Result Line Fault)) → Yields steps it ks
@@ -233,6 +233,6 @@ module _ {I : Type 0} (steps : I → Option (Result Line Fault) → I → Type 0
         (faults_within (length text) (lines_came (map line_item_of ks)) h.refusal.code h.refusal.byte
         (subst (λ ls. LinesWithin (length text) ls) (sym c.are) (stand c.lines c.came)) h.refuses.stands)
 
-    pub lays_within : RefusesWithin gives (length text) toks
+    pub lays_within : RefusesWithin gives (length text) iterator
     lays_within ts r come = let l = lays (map Ok ts ++ Err (Refused r) ∷ []) come in
         by_fault ts r l.0 l.1 (fault_came (map line_item_of l.0)) refl l.2

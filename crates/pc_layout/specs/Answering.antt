@@ -58,6 +58,6 @@ module _ {I T : Type 0} (steps : I → Option (Result Line Fault) → I → Type
     (gives : T → Option (Result (Token (Bor (List ℕ))) Fault) → T → Type 0) where
   -- the items of the iterator of tokens are always the result of lines that the iterator of lines yields
   abbrev pub LaysOut : List ℕ → I → T → Type 0
-  LaysOut text it toks = (items : List (Result (Token (Bor (List ℕ))) Fault)) → Yields gives toks items →
+  LaysOut text it iterator = (items : List (Result (Token (Bor (List ℕ))) Fault)) → Yields gives iterator items →
       (ks : List (Result Line Fault)) × Yields steps it ks
       × AnswersLines text (map line_item_of ks) (map token_item_of items)

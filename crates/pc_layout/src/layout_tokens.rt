@@ -17,7 +17,7 @@ use std::alloc::Global;
 #[derive(Drop)]
 pub struct LayoutTokens<'a, I: Drop> {
     lines: I,
-    hand: PendingLine<'a>,
+    pending_line: PendingLine<'a>,
 }
 
 impl<'a, I: Iterator<Item = Result<Line<'a>, Fault>> + Drop> LayoutTokens<'a, I> {
@@ -45,28 +45,29 @@ impl<'a, I: Iterator<Item = Result<Line<'a>, Fault>> + Drop> LayoutTokens<'a, I>
     /// function of its own, to keep `next`, which mostly takes a token that is ready, small.
     #[inline(never)]
     fn ask(&mut self) -> Option<Result<TextToken<'a>, Fault>>
-        requires due { self.old.hand.due ≡ LineStage.Lines }
+        requires due { self.old.pending_line.due ≡ LineStage.Lines }
         requires can { I.can_next self.old.lines }
         requires ends { IsFinite (I.remaining self.old.lines) }
-        ensures steps { gives_next_token I.next_gives self.old.hand self.old.lines result self.new.hand self.new.lines }
+        ensures steps { gives_next_token I.next_gives self.old.pending_line self.old.lines result
+            self.new.pending_line self.new.lines }
         ensures goes { MakesProgress
-            (λ s. asks s.hand.due ≡ true → I.can_next s.lines × IsFinite (I.remaining s.lines))
-            (λ s. most_tokens_left s.hand (I.remaining s.lines)) self.old result self.new }
+            (λ s. asks s.pending_line.due ≡ true → I.can_next s.lines × IsFinite (I.remaining s.lines))
+            (λ s. most_tokens_left s.pending_line (I.remaining s.lines)) self.old result self.new }
     {
         match self.lines.next() {
             None => {
-                self.hand.finish();
-                Some(Ok(self.hand.take()))
+                self.pending_line.finish();
+                Some(Ok(self.pending_line.take()))
             }
             Some(Err(fault)) => {
-                self.hand.due = LineStage::Nothing;
+                self.pending_line.due = LineStage::Nothing;
                 Some(Err(fault))
             }
-            Some(Ok(line)) => match self.hand.begin(line) {
-                Ok(()) => Some(Ok(self.hand.take())),
+            Some(Ok(line)) => match self.pending_line.begin(line) {
+                Ok(()) => Some(Ok(self.pending_line.take())),
                 Err(refusal) => {
                     let fault = self.outrank(refusal);
-                    self.hand.due = LineStage::Nothing;
+                    self.pending_line.due = LineStage::Nothing;
                     Some(Err(fault))
                 }
             },
@@ -81,20 +82,20 @@ impl<'a, I: Iterator<Item = Result<Line<'a>, Fault>> + Drop> Iterator for Layout
     ghost use Rattle.pc_layout.specs.TokenIterator.Items.{most_tokens_left};
     ghost use Rattle.pc_layout.specs.TokenIterator.NextToken.{gives_next_token};
 
-    ghost next_gives = { λ s r t. gives_next_token I.next_gives s.hand s.lines r t.hand t.lines };
+    ghost next_gives = { λ s r t. gives_next_token I.next_gives s.pending_line s.lines r t.pending_line t.lines };
 
-    ghost remaining = { λ s. most_tokens_left s.hand (I.remaining s.lines) };
+    ghost remaining = { λ s. most_tokens_left s.pending_line (I.remaining s.lines) };
 
-    ghost can_next = { λ s. asks s.hand.due ≡ true → I.can_next s.lines × IsFinite (I.remaining s.lines) };
+    ghost can_next = { λ s. asks s.pending_line.due ≡ true → I.can_next s.lines × IsFinite (I.remaining s.lines) };
 
     fn size_hint(&self) -> (usize, Option<usize>) {
         (0, None)
     }
 
     fn next(&mut self) -> Option<Result<TextToken<'a>, Fault>> {
-        match self.hand.due {
+        match self.pending_line.due {
             LineStage::Nothing => None,
-            LineStage::Line | LineStage::End => Some(Ok(self.hand.take())),
+            LineStage::Line | LineStage::End => Some(Ok(self.pending_line.take())),
             LineStage::Lines => self.ask(),
         }
     }
@@ -123,6 +124,6 @@ pub fn layout_of<'a, I: Iterator<Item = Result<Line<'a>, Fault>> + Drop>(
 {
     LayoutTokens {
         lines,
-        hand: PendingLine::new(alloc, source),
+        pending_line: PendingLine::new(alloc, source),
     }
 }

@@ -1,16 +1,19 @@
 //! Values of literals, binding of arguments to parameters, and the frame of a call.
 
-ghost use Rattle.std.specs.Prelude.{◌≡◌, map, IfOk, List, ℕ, chars, string_bytes};
+ghost use Rattle.std.specs.Prelude.{◌≡◌, ◌++◌, map, IfOk, List, ℕ, chars, string_bytes};
 ghost use Rattle.std.specs.List.{list_all};
 ghost use Rattle.pc_tree.specs.Stopping.{is_among};
 ghost use Rattle.pc_tree.specs.Names.{at_text, texts_in};
 ghost use Rattle.pc_tree.specs.Tree.{literal_of, param_of};
 ghost use Rattle.pc_value.specs.Doing.{action_of};
 ghost use Rattle.pc_value.specs.Meaning.{value_of, slot_of};
+ghost use Rattle.pc_value.specs.Actions.{read_attribute, store_attribute};
 ghost use Rattle.pc_value.specs.Internal.Keys.{option_value};
 ghost use Rattle.pc_machine.specs.Calls.{value_named, is_parameter, are_parameters, bound_arguments, value_taken};
+ghost use Rattle.pc_machine.specs.Calls.{filled_parameters, NamedValue as NamedValueOf};
 ghost use Rattle.pc_machine.specs.Calls.{method_of, or_type_error, slots_of, builtin_method_action};
 ghost use Rattle.pc_machine.specs.Names.{frame_of};
+ghost use Rattle.pc_machine.specs.State.{Local as LocalOf};
 ghost use Rattle.pc_machine.specs.Machine.{literal_value, parameter_of, parameter_of_param, named_of, value_if_any};
 ghost use Rattle.pc_machine.specs.Machine.{locals_of, default_of, TellsOutcome, method_seen, local_of, with_object};
 ghost use Rattle.pc_machine.specs.Machine.{frame_of_vec, method_of_def};
@@ -181,6 +184,21 @@ pub fn bound_arguments<'m>(
         return Ok(None);
     }
     let by_name = first_values(alloc, keys, named)?;
+    filled_parameters(alloc, parameters, values, &by_name)
+}
+
+/// Gives each parameter its value, as the locals of a call. `None` if one has no value or an argument by position is
+/// left over.
+fn filled_parameters<'m>(
+    alloc: Global,
+    parameters: &[FormalParameter<'m>],
+    values: &[Value],
+    by_name: &NameMap<'_, &Value>,
+) -> Result<Option<Vec<Local<'m>>>, OutOfMemory>
+    ensures { IfOk result (λ o. (named : List NamedValueOf)
+        → ((name : List ℕ) → option_value (at_text by_name.now name) ≡ value_named name named)
+        → locals_of o ≡ filled_parameters (map parameter_of parameters.now) (map value_of values.now) named) }
+{
     let mut locals = Vec::new(alloc);
     for (i, parameter) in parameters.iter().enumerate() {
         match take(
@@ -231,13 +249,73 @@ pub fn builtin_action(
         (map named_of named.now)) }
 {
     if !named.is_empty() {
+        drop(object);
         return Err(Halt::Stopped(Stop::Outside));
     }
     match (method, values) {
-        (BuiltinMethod::ListAppend, [value]) => Ok(Action::Append(object, value.copy(alloc)?)),
+        (BuiltinMethod::ListAppend, [value]) => {
+            let (object, value) = with_copy(alloc, object, value)?;
+            Ok(Action::Append(object, value))
+        }
         (BuiltinMethod::ListPop, []) => Ok(Action::Pop(object)),
-        (BuiltinMethod::DictGet, [key]) => Ok(Action::Get(object, key.copy(alloc)?)),
-        _ => Err(Halt::Stopped(Stop::Outside)),
+        (BuiltinMethod::DictGet, [key]) => {
+            let (object, key) = with_copy(alloc, object, key)?;
+            Ok(Action::Get(object, key))
+        }
+        _ => {
+            drop(object);
+            Err(Halt::Stopped(Stop::Outside))
+        }
+    }
+}
+
+/// Returns an object and a copy of an operand.
+fn with_copy(alloc: Global, object: Value, operand: &Value) -> Result<(Value, Value), OutOfMemory>
+    ensures { IfOk result (λ both. (both.0 ≡ object) × (value_of both.1 ≡ value_of operand.now)) }
+{
+    match operand.copy(alloc) {
+        Ok(copy) => Ok((object, copy)),
+        Err(error) => {
+            drop(object);
+            Err(error)
+        }
+    }
+}
+
+/// Returns the action that reads an attribute of an object.
+pub fn attribute_read(
+    alloc: Global,
+    object: Value,
+    name: &str,
+    is_method: bool,
+) -> Result<Action, OutOfMemory>
+    ensures { IfOk result (λ a. action_of a ≡ read_attribute (value_of object) name.now is_method) }
+{
+    match owned_text(alloc, name) {
+        Ok(name) => Ok(Action::ReadAttribute(object, name, is_method)),
+        Err(error) => {
+            drop(object);
+            Err(error)
+        }
+    }
+}
+
+/// Returns the action that stores a value to an attribute of an object.
+pub fn attribute_store(
+    alloc: Global,
+    object: Value,
+    name: &str,
+    value: Value,
+) -> Result<Action, OutOfMemory>
+    ensures { IfOk result (λ a. action_of a ≡ store_attribute (value_of object) name.now (value_of value)) }
+{
+    match owned_text(alloc, name) {
+        Ok(name) => Ok(Action::StoreAttribute(object, name, value)),
+        Err(error) => {
+            drop(object);
+            drop(value);
+            Err(error)
+        }
     }
 }
 
@@ -270,16 +348,28 @@ pub fn frame_of<'m>(
     ensures { IfOk result (λ ls. map local_of ls.items
         ≡ frame_of (method_of_def def.entry) (with_object (value_if_any object) (map local_of arguments.entry.items))) }
 {
-    let mut frame = Vec::new(alloc);
-    if let Some(object) = object {
-        frame.push(Local {
-            name: "self",
-            value: Some(object),
-        })?;
-    }
+    let mut frame = object_local(alloc, object)?;
     for argument in arguments {
         frame.push(argument)?;
     }
     add_names(&mut frame, &def.body)?;
     Ok(frame)
+}
+
+/// Returns the local `self` of a method's frame; no local for a function's.
+fn object_local<'m>(alloc: Global, object: Option<Value>) -> Result<Vec<Local<'m>>, OutOfMemory>
+    ensures { IfOk result (λ ls. (others : List LocalOf)
+        → with_object (value_if_any object) others ≡ map local_of ls.items ++ others) }
+{
+    let mut locals = Vec::new(alloc);
+    match object {
+        None => Ok(locals),
+        Some(object) => {
+            locals.push(Local {
+                name: "self",
+                value: Some(object),
+            })?;
+            Ok(locals)
+        }
+    }
 }

@@ -257,7 +257,10 @@ impl<'m> Machine<'m> {
             (act value_out (action_of action) (after_event place (progress_of self.old))) }
         ensures fuel { self.new.fuel ≤ self.old.fuel }
     {
-        self.emit(place)?;
+        if let Err(error) = self.emit(place) {
+            drop(action);
+            return Err(Halt::OutOfMemory(error));
+        }
         self.act_value(alloc, action)
     }
 }

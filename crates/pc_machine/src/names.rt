@@ -46,6 +46,7 @@ pub fn set_local(frame: &mut [Local<'_>], name: &str, value: Value)
             return;
         }
     }
+    drop(value);
 }
 
 /// Adds an unbound local.

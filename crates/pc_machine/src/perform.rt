@@ -1,33 +1,37 @@
 //! The machine's work at a node: calls, actions, stores. These functions stay out of those that evaluate
 //! (`inline(never)`), whose stack frames pile up in the deepest runs.
 
-ghost use Rattle.std.specs.Prelude.{◌≡◌, ◌≤◌, ◌<◌, ◌-◌, [], ℕ, map, OnOk, chars, is_some};
+ghost use Rattle.std.specs.Prelude.{◌≡◌, ◌≤◌, ◌<◌, ◌-◌, [], ℕ, map, OnOk, IfOk, chars, is_some, nat_eq, Some};
 ghost use Rattle.pc_tree.specs.Tree.{expr_of, stmts_of_list, name_of};
 ghost use Rattle.pc_value.specs.Meaning.{value_of};
 ghost use Rattle.pc_value.specs.Doing.{iteration_of};
 ghost use Rattle.pc_value.specs.Numbers.{number_of_digits};
 ghost use Rattle.pc_value.specs.Actions as action;
 ghost use Rattle.pc_value.specs.Value.{string};
-ghost use Rattle.pc_machine.specs.Plain.{Came, after_event, act};
+ghost use Rattle.pc_machine.specs.Plain.{Came, after_event, act, call_limit};
+ghost use Rattle.pc_machine.specs.Names.{frame_of};
 ghost use Rattle.pc_machine.specs.Steps.{value_out};
-ghost use Rattle.pc_machine.specs.Calls.{method_of};
+ghost use Rattle.pc_machine.specs.Calls.{method_of, class_at, bound_arguments};
+ghost use Rattle.pc_machine.specs.Evaluation.{fields_of};
 ghost use Rattle.pc_machine.specs.Performed.{callee_in, callee_called, attribute_callee, instance_tested};
 ghost use Rattle.pc_machine.specs.Performed.{attribute_stored, item_stored, range_begun, empty_charged, opened_frame};
+ghost use Rattle.pc_machine.specs.Performed.{entered_unless};
 ghost use Rattle.pc_machine.specs.Machine.{TellsProgress, unit};
 ghost use Rattle.pc_machine.specs.Machine.{progress_of, state_of, flow_of, named_of, value_if_any, callee_seen};
-ghost use Rattle.pc_machine.specs.Machine.{frame_of_vec, method_of_def};
+ghost use Rattle.pc_machine.specs.Machine.{frame_of_vec, method_of_def, with_object, local_of, locals_of};
 ghost use Rattle.pc_tree.specs.Tree.{name as name_node};
 ghost use Rattle.pc_machine.specs.Calls.{calls_class, calls_reserved};
 ghost use Rattle.pc_machine.specs.declared.state.Callee.TheVariants as callee;
 
 use crate::calls::{
-    bound_arguments, builtin_action, characters, frame_of, owned_text, slots_of, suited_arguments,
+    attribute_read, attribute_store, bound_arguments, builtin_action, characters, frame_of,
+    owned_text, slots_of, suited_arguments,
 };
 use crate::halt::{Halt, Stop};
 use crate::machine::{Machine, raised};
 use crate::names::is_same;
 use crate::state::{BuiltinMethod, Callee, Completion, Local, NamedValue};
-use pc_source::Place;
+use pc_source::{OutOfMemory, Place};
 use pc_tree::{Expr, FuncDef, Name, Stmt};
 use pc_value::{Action, Exception, Iteration, Value};
 use std::alloc::Global;
@@ -72,8 +76,8 @@ impl<'m> Machine<'m> {
         ensures fuel { self.new.fuel ≤ self.old.fuel }
     {
         let is_method = self.find_method(&object, name).is_some();
-        let name = owned_text(alloc, name)?;
-        self.perform(alloc, place, Action::ReadAttribute(object, name, is_method))
+        let action = attribute_read(alloc, object, name, is_method)?;
+        self.perform(alloc, place, action)
     }
 
     /// Looks up a name as a callee: its charge, its event, then its meaning. Language Reference 6.3.4 "Calls".
@@ -102,15 +106,18 @@ impl<'m> Machine<'m> {
             (attribute_callee (value_of object) name.now (after_event place (progress_of self.old))) }
         ensures fuel { self.new.fuel ≤ self.old.fuel }
     {
-        self.emit(place)?;
+        if let Err(error) = self.emit(place) {
+            drop(object);
+            return Err(Halt::OutOfMemory(error));
+        }
         if let Some(method) = self.find_method(&object, name) {
             return Ok(Callee::Method(object, method));
         }
         if let Some(method) = self.find_builtin_method(&object, name) {
             return Ok(Callee::BuiltinMethod(object, method));
         }
-        let name = owned_text(alloc, name)?;
-        let field = self.act_value(alloc, Action::ReadAttribute(object, name, false))?;
+        let action = attribute_read(alloc, object, name, false)?;
+        let field = self.act_value(alloc, action)?;
         Ok(Callee::Value(field))
     }
 
@@ -146,16 +153,30 @@ impl<'m> Machine<'m> {
             (progress_of self.old)) }
         ensures fuel { self.new.fuel ≤ self.old.fuel }
     {
-        let fields = match self.classes.get(class) {
-            Some(made) => bound_arguments(alloc, self.keys, &made.fields, values, named)?,
-            None => bound_arguments(alloc, self.keys, &[], values, named)?,
-        };
-        match fields {
+        match self.bound_fields(alloc, class, values, named)? {
             Some(fields) => {
                 let slots = slots_of(alloc, &fields)?;
                 self.act_value(alloc, Action::NewInstance(class, slots))
             }
             None => Err(raised(Exception::TypeError)),
+        }
+    }
+
+    /// Binds the arguments of a call to the fields of the class with a number. `None` if they do not match.
+    fn bound_fields(
+        &self,
+        alloc: Global,
+        class: usize,
+        values: &[Value],
+        named: &[NamedValue<'m>],
+    ) -> Result<Option<Vec<Local<'m>>>, OutOfMemory>
+        ensures { IfOk result (λ o. locals_of o
+            ≡ bound_arguments (fields_of (class_at (state_of self.now).classes (Some class))) (map value_of values.now)
+            (map named_of named.now)) }
+    {
+        match self.classes.get(class) {
+            Some(made) => bound_arguments(alloc, self.keys, &made.fields, values, named),
+            None => bound_arguments(alloc, self.keys, &[], values, named),
         }
     }
 
@@ -235,26 +256,48 @@ impl<'m> Machine<'m> {
             (map named_of named.now) (progress_of self.old)) }
         ensures fuel { self.new.fuel ≤ self.old.fuel }
     {
-        let arguments = suited_arguments(alloc, self.keys, def, values, named)?;
-        // After the arguments: if they do not match, that is a TypeError at any depth.
-        let Some(depth) = self.depth.deeper() else {
-            return Err(Halt::Stopped(Stop::Cut));
+        let arguments = match suited_arguments(alloc, self.keys, def, values, named) {
+            Ok(arguments) => arguments,
+            Err(halt) => {
+                drop(object);
+                return Err(halt);
+            }
         };
         match object {
-            None => {
-                let frame = frame_of(alloc, None, arguments, def)?;
-                let caller = mem::replace(&mut self.frame, frame);
-                self.depth = depth;
-                Ok(caller)
-            }
+            None => self.open_frame(alloc, def, None, arguments),
             Some(object) => {
-                let frame = frame_of(alloc, Some(object), arguments, def)?;
-                let caller = mem::replace(&mut self.frame, frame);
-                self.depth = depth;
+                let caller = self.open_frame(alloc, def, Some(object), arguments)?;
                 self.emit(def.name.place)?;
                 Ok(caller)
             }
         }
+    }
+
+    /// Enters the frame of a call whose arguments match its parameters and returns the caller's frame. Cut off if 64
+    /// calls are open.
+    /// Language Reference 6.3.4 "Calls"; own rule of the profile.
+    fn open_frame(
+        &mut self,
+        alloc: Global,
+        def: &'m FuncDef,
+        object: Option<Value>,
+        arguments: Vec<Local<'m>>,
+    ) -> Result<Vec<Local<'m>>, Halt>
+        ensures plain { TellsProgress frame_of_vec result self.new
+            (entered_unless (nat_eq self.old.depth.calls call_limit)
+            (frame_of (method_of_def def.entry) (with_object (value_if_any object) (map local_of arguments.entry.items)))
+            (progress_of self.old)) }
+        ensures fuel { self.new.fuel ≤ self.old.fuel }
+    {
+        // After the arguments: if they do not match, that is a TypeError at any depth.
+        let Some(depth) = self.depth.deeper() else {
+            drop(object);
+            return Err(Halt::Stopped(Stop::Cut));
+        };
+        let frame = frame_of(alloc, object, arguments, def)?;
+        let caller = mem::replace(&mut self.frame, frame);
+        self.depth = depth;
+        Ok(caller)
     }
 
     /// Charges for the suite of a loop if it is empty. Own rule of the profile.
@@ -285,8 +328,8 @@ impl<'m> Machine<'m> {
             (attribute_stored (value_of object) name.now (value_of value) (after_event place (progress_of self.old))) }
         ensures fuel { self.new.fuel ≤ self.old.fuel }
     {
-        let name = owned_text(alloc, name)?;
-        self.perform(alloc, place, Action::StoreAttribute(object, name, value))?;
+        let action = attribute_store(alloc, object, name, value)?;
+        self.perform(alloc, place, action)?;
         Ok(Completion::Next)
     }
 

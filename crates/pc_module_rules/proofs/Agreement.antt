@@ -22,7 +22,7 @@ use Rattle.pc_scope.specs.declared.resolution.Builtin.{Builtin}
 use Rattle.pc_scope.specs.declared.resolution.Owner.{Owner}
 use Rattle.pc_scope.specs.declared.resolution.Owner.TheVariants as owners
 use Rattle.pc_scope.specs.declared.resolution.NameMeaning.{NameMeaning}
-use Rattle.pc_scope.specs.declared.resolution.NameMeaning.TheVariants as res
+use Rattle.pc_scope.specs.declared.resolution.NameMeaning.TheVariants as meaning
 use Rattle.pc_scope.specs.Reserved.{builtin_of}
 use Rattle.pc_scope.specs.Bindings.{as_constant, as_class, as_function, constants_in, classes_in, functions_in}
 use Rattle.pc_scope.specs.Bindings.{methods_in, Body, bodies}
@@ -159,8 +159,8 @@ is_other _ callee h = absurd (none-some _ h)
 
 -- the constants and classes that names mean are there
 abbrev IsThere : ℕ → ℕ → NameMeaning → Type 0
-IsThere k c (res.Const i) = i < k
-IsThere k c (res.Class i) = i < c
+IsThere k c (meaning.Const i) = i < k
+IsThere k c (meaning.Class i) = i < c
 IsThere k c _ = Unit {0}
 
 first_there : (k f c : ℕ) (items : List Item) (word : List ℕ) (r : NameMeaning) → bound_first k f c items word ≡ Some r
@@ -171,14 +171,14 @@ first_there k f c (constant_item p x ∷ rest) word r e = go (bytes_eq x.name.te
   where
     moved : (r : NameMeaning) → IsThere (suc k + length (constants_in rest)) (c + length (classes_in rest)) r
         → IsThere (k + length (constants_in (constant_item p x ∷ rest))) (c + length (classes_in rest)) r
-    moved (res.Const i) h = omega arith
-    moved (res.Class i) h = h
-    moved (res.Local i) h = tt
-    moved (res.Func i) h = tt
-    moved (res.Builtin i) h = tt
-    moved res.None h = tt
+    moved (meaning.Const i) h = omega arith
+    moved (meaning.Class i) h = h
+    moved (meaning.Local i) h = tt
+    moved (meaning.Func i) h = tt
+    moved (meaning.Builtin i) h = tt
+    moved meaning.None h = tt
 
-    here : Some (res.Const k) ≡ Some r → IsThere (k + length (constants_in (constant_item p x ∷ rest)))
+    here : Some (meaning.Const k) ≡ Some r → IsThere (k + length (constants_in (constant_item p x ∷ rest)))
         (c + length (classes_in rest)) r
     here is = subst (IsThere (k + length (constants_in (constant_item p x ∷ rest))) (c + length (classes_in rest)))
         (same_Some _ _ is) below
@@ -186,7 +186,7 @@ first_there k f c (constant_item p x ∷ rest) word r e = go (bytes_eq x.name.te
         below : k < k + suc (length (constants_in rest))
         below = omega arith
 
-    go : (b : Test) → (if b then Some (res.Const k) else bound_first (suc k) f c rest word) ≡ Some r
+    go : (b : Test) → (if b then Some (meaning.Const k) else bound_first (suc k) f c rest word) ≡ Some r
         → (bound_first (suc k) f c rest word ≡ Some r → IsThere (suc k + length (constants_in rest))
         (c + length (classes_in rest)) r) → IsThere (k + length (constants_in (constant_item p x ∷ rest)))
         (c + length (classes_in rest)) r
@@ -197,14 +197,14 @@ first_there k f c (class_item p x ∷ rest) word r e = go (bytes_eq x.name.text 
   where
     moved : (r : NameMeaning) → IsThere (k + length (constants_in rest)) (suc c + length (classes_in rest)) r
         → IsThere (k + length (constants_in rest)) (c + length (classes_in (class_item p x ∷ rest))) r
-    moved (res.Const i) h = h
-    moved (res.Class i) h = omega arith
-    moved (res.Local i) h = tt
-    moved (res.Func i) h = tt
-    moved (res.Builtin i) h = tt
-    moved res.None h = tt
+    moved (meaning.Const i) h = h
+    moved (meaning.Class i) h = omega arith
+    moved (meaning.Local i) h = tt
+    moved (meaning.Func i) h = tt
+    moved (meaning.Builtin i) h = tt
+    moved meaning.None h = tt
 
-    here : Some (res.Class c) ≡ Some r → IsThere (k + length (constants_in rest))
+    here : Some (meaning.Class c) ≡ Some r → IsThere (k + length (constants_in rest))
         (c + length (classes_in (class_item p x ∷ rest))) r
     here is = subst (IsThere (k + length (constants_in rest)) (c + length (classes_in (class_item p x ∷ rest))))
         (same_Some _ _ is) below
@@ -212,7 +212,7 @@ first_there k f c (class_item p x ∷ rest) word r e = go (bytes_eq x.name.text 
         below : c < c + suc (length (classes_in rest))
         below = omega arith
 
-    go : (b : Test) → (if b then Some (res.Class c) else bound_first k f (suc c) rest word) ≡ Some r
+    go : (b : Test) → (if b then Some (meaning.Class c) else bound_first k f (suc c) rest word) ≡ Some r
         → (bound_first k f (suc c) rest word ≡ Some r → IsThere (k + length (constants_in rest))
         (suc c + length (classes_in rest)) r) → IsThere (k + length (constants_in rest))
         (c + length (classes_in (class_item p x ∷ rest))) r
@@ -221,10 +221,10 @@ first_there k f c (class_item p x ∷ rest) word r e = go (bytes_eq x.name.text 
 first_there k f c (def_item p x ∷ rest) word r e = go (bytes_eq x.name.text word) e
     (first_there k (suc f) c rest word r)
   where
-    here : Some (res.Func f) ≡ Some r → IsThere (k + length (constants_in rest)) (c + length (classes_in rest)) r
+    here : Some (meaning.Func f) ≡ Some r → IsThere (k + length (constants_in rest)) (c + length (classes_in rest)) r
     here is = subst (IsThere (k + length (constants_in rest)) (c + length (classes_in rest))) (same_Some _ _ is) tt
 
-    go : (b : Test) → (if b then Some (res.Func f) else bound_first k (suc f) c rest word) ≡ Some r
+    go : (b : Test) → (if b then Some (meaning.Func f) else bound_first k (suc f) c rest word) ≡ Some r
         → (bound_first k (suc f) c rest word ≡ Some r → IsThere (k + length (constants_in rest))
         (c + length (classes_in rest)) r) → IsThere (k + length (constants_in rest)) (c + length (classes_in rest)) r
     go true e next = here e
@@ -235,16 +235,16 @@ there_in_module : (m : Module) (word : List ℕ) → IsThere (length (constants_
 there_in_module m word = go (builtin_of word) (bound_first 0 0 0 m.items word) refl
   where
     zero_more : (k c : ℕ) (r : NameMeaning) → IsThere (0 + k) (0 + c) r → IsThere k c r
-    zero_more k c (res.Const i) h = omega arith
-    zero_more k c (res.Class i) h = omega arith
-    zero_more k c (res.Local i) h = tt
-    zero_more k c (res.Func i) h = tt
-    zero_more k c (res.Builtin i) h = tt
-    zero_more k c res.None h = tt
+    zero_more k c (meaning.Const i) h = omega arith
+    zero_more k c (meaning.Class i) h = omega arith
+    zero_more k c (meaning.Local i) h = tt
+    zero_more k c (meaning.Func i) h = tt
+    zero_more k c (meaning.Builtin i) h = tt
+    zero_more k c meaning.None h = tt
 
     go : (b : Option Builtin) (r : Option NameMeaning) → bound_first 0 0 0 m.items word ≡ r
         → IsThere (length (constants_in m.items)) (length (classes_in m.items))
-        (or_meaning (builtin_meaning b) (or_meaning r res.None))
+        (or_meaning (builtin_meaning b) (or_meaning r meaning.None))
     go (Some b) r is = tt
     go None None is = tt
     go None (Some r) is = zero_more _ _ r (first_there 0 0 0 m.items word r is)
@@ -289,33 +289,33 @@ at_most_not_below c n l = grind (arith, nat_tests)
 -- a meaning that an initializer may not name yet is an early one after so many constants and classes
 early_meaning : (m : Module) (constants : List Tree) (k c : ℕ) → length constants ≡ k → (r : NameMeaning)
     → IsEarlyHere (initializer_context m constants c) r → IsEarlyMeaning k c r
-early_meaning m constants k c n (res.Func i) h = tt
-early_meaning m constants k c n (res.Const i) h = let l = none_past constants i h in omega (arith, l, n)
-early_meaning m constants k c n (res.Class i) h = not_below i c h
-early_meaning m constants k c n (res.Local i) h = h
-early_meaning m constants k c n (res.Builtin i) h = h
-early_meaning m constants k c n res.None h = h
+early_meaning m constants k c n (meaning.Func i) h = tt
+early_meaning m constants k c n (meaning.Const i) h = let l = none_past constants i h in omega (arith, l, n)
+early_meaning m constants k c n (meaning.Class i) h = not_below i c h
+early_meaning m constants k c n (meaning.Local i) h = h
+early_meaning m constants k c n (meaning.Builtin i) h = h
+early_meaning m constants k c n meaning.None h = h
 
 early_here : (m : Module) (constants : List Tree) (k c : ℕ) → length constants ≡ k → (r : NameMeaning) → IsEarlyMeaning k c r
     → IsEarlyHere (initializer_context m constants c) r
-early_here m constants k c n (res.Func i) h = refl
-early_here m constants k c n (res.Const i) h = past_none constants i (omega (arith, h, n))
-early_here m constants k c n (res.Class i) h = at_most_not_below i c h
-early_here m constants k c n (res.Local i) h = h
-early_here m constants k c n (res.Builtin i) h = h
-early_here m constants k c n res.None h = h
+early_here m constants k c n (meaning.Func i) h = refl
+early_here m constants k c n (meaning.Const i) h = past_none constants i (omega (arith, h, n))
+early_here m constants k c n (meaning.Class i) h = at_most_not_below i c h
+early_here m constants k c n (meaning.Local i) h = h
+early_here m constants k c n (meaning.Builtin i) h = h
+early_here m constants k c n meaning.None h = h
 
 -- a body may name all that there is
 never_early : (m : Module) (constants : List Tree) (names : List (List ℕ))
     → length constants ≡ length (constants_in m.items) → (r : NameMeaning) → IsThere (length (constants_in m.items))
     (length (classes_in m.items)) r → IsEarlyHere (body_context m constants names) r → ⊥
-never_early m constants names n (res.Func i) there h = both refl h
-never_early m constants names n (res.Const i) there h = get_there constants i (omega (arith, there, n)) h
-never_early m constants names n (res.Class i) there h = let l = not_below i (length (classes_in m.items)) h in
+never_early m constants names n (meaning.Func i) there h = both refl h
+never_early m constants names n (meaning.Const i) there h = get_there constants i (omega (arith, there, n)) h
+never_early m constants names n (meaning.Class i) there h = let l = not_below i (length (classes_in m.items)) h in
     omega (arith, there, l)
-never_early m constants names n (res.Local i) there h = h
-never_early m constants names n (res.Builtin i) there h = h
-never_early m constants names n res.None there h = h
+never_early m constants names n (meaning.Local i) there h = h
+never_early m constants names n (meaning.Builtin i) there h = h
+never_early m constants names n meaning.None there h = h
 
 constants_counted : (m : Module) (items : List Item) (labels : ModuleItemsLabels items)
     → length (constant_types m items labels) ≡ length (constants_in items)

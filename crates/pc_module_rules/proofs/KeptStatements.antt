@@ -18,19 +18,19 @@ use Rattle.pc_module_rules.specs.Laws.Walks.{TableFits, EnvFits, OutFits, WalkSa
 use Rattle.pc_module_rules.proofs.WalkedStatements.{stmt_says, suite_says}
 use Rattle.pc_module_rules.proofs.KeptWalks.{SameWalk, standing, same_step, same_suite}
 
-module _ (keeps : Test) (setting : Surroundings) (returned : Tree)
-    (kr : IsWellFormed setting.context.bases returned) (declared : List Tree) where
-  open setting use {whole as m, context as ctx}
+module _ (keeps : Test) (around : Surroundings) (returned : Tree)
+    (kr : IsWellFormed around.context.bases returned) (declared : List Tree) where
+  open around use {whole as m, context as ctx}
 
   -- the context of the statements, where types may be kept, and where they are not
   abbrev kept : BodyContext
   kept = standing m ctx returned keeps
 
   abbrev bare : BodyContext
-  bare = body_context_in setting returned
+  bare = body_context_in around returned
 
   abbrev TableHere : NamesBound → DeclaredTypes → Type 0
-  TableHere seen table = TableFits setting declared seen table
+  TableHere seen table = TableFits around declared seen table
 
   abbrev LawfulHere : NamesBound → Env → (s : Stmt) → StmtLabels s → Option Env → Type 0
   LawfulHere seen env s labels out = LawfulStmt m ctx declared returned seen env s labels out
@@ -39,48 +39,48 @@ module _ (keeps : Test) (setting : Surroundings) (returned : Tree)
   LawfulThere seen env b labels out = LawfulSuite m ctx declared returned seen env b labels out
 
   -- the walk has come to the environment of the labels, from this table to one that fits
-  pub record Stands (seen : NamesBound) (table : DeclaredTypes) (w : Walk) (out : Option Env) : Type 0 where
+  pub record StateFits (seen : NamesBound) (table : DeclaredTypes) (w : Walk) (out : Option Env) : Type 0 where
     pub fits : TableHere seen w.table
-    pub grows : (env : Env) → EnvFits setting declared table env → EnvFits setting declared w.table env
+    pub grows : (env : Env) → EnvFits around declared table env → EnvFits around declared w.table env
     pub env_is : w.env ≡ out
-    pub env_fits : OutFits setting declared w.table out
-    pub broken_fits : OutFits setting declared w.table w.broken
+    pub env_fits : OutFits around declared w.table out
+    pub exit_env_fits : OutFits around declared w.table w.exit_env
 
-  stands : (seen : NamesBound) (table : DeclaredTypes) (broken : Option Env) (found : List Note) (v w : Walk) (out : Option Env)
+  stands : (seen : NamesBound) (table : DeclaredTypes) (exit_env : Option Env) (found : List Note) (v w : Walk) (out : Option Env)
       (ways : List Env) (Says : Finding → Type 0) → SameWalk v w
-      → WalkSays setting declared seen table broken found w out ways Says → Stands seen table v out
-  stands seen table broken found v w out ways Says h says = record {
+      → WalkSays around declared seen table exit_env found w out ways Says → StateFits seen table v out
+  stands seen table exit_env found v w out ways Says h says = record {
     fits = subst (λ (t : DeclaredTypes). TableHere seen t) (sym h.table) says.fits;
-    grows = λ env f. subst (λ (t : DeclaredTypes). EnvFits setting declared t env) (sym h.table) (says.grows env f);
+    grows = λ env f. subst (λ (t : DeclaredTypes). EnvFits around declared t env) (sym h.table) (says.grows env f);
     env_is = h.env ∙ says.env_is;
-    env_fits = subst (λ (t : DeclaredTypes). OutFits setting declared t out) (sym h.table) says.env_fits;
-    broken_fits = subst (λ (t : DeclaredTypes). OutFits setting declared t v.broken) (sym h.table)
-        (subst (λ (o : Option Env). OutFits setting declared w.table o) (sym h.broken) says.broken_fits);
+    env_fits = subst (λ (t : DeclaredTypes). OutFits around declared t out) (sym h.table) says.env_fits;
+    exit_env_fits = subst (λ (t : DeclaredTypes). OutFits around declared t v.exit_env) (sym h.table)
+        (subst (λ (o : Option Env). OutFits around declared w.table o) (sym h.exit_env) says.exit_env_fits);
   }
 
-  pub stmt_stands : (seen : NamesBound) (table : DeclaredTypes) (env : Env) (broken : Option Env) (found : List Note)
-      → TableHere seen table → EnvFits setting declared table env → OutFits setting declared table broken
+  pub stmt_stands : (seen : NamesBound) (table : DeclaredTypes) (env : Env) (exit_env : Option Env) (found : List Note)
+      → TableHere seen table → EnvFits around declared table env → OutFits around declared table exit_env
       → (s : Stmt) (labels : StmtLabels s) (out : Option Env) → LawfulHere seen env s labels out
-      → Stands (texts (bound_by_stmt s) ++ seen) table (step kept table (Some env) broken found s) out
-  stmt_stands seen table env broken found t f kb s labels out l =
-      stands (texts (bound_by_stmt s) ++ seen) table broken found (step kept table (Some env) broken found s)
-      (step bare table (Some env) broken found s) out _ _
-      (same_step m ctx returned keeps false table (Some env) broken found found s)
-      (stmt_says setting returned kr declared seen table env broken found t f kb s labels out l)
+      → StateFits (texts (bound_by_stmt s) ++ seen) table (step kept table (Some env) exit_env found s) out
+  stmt_stands seen table env exit_env found t f kb s labels out l =
+      stands (texts (bound_by_stmt s) ++ seen) table exit_env found (step kept table (Some env) exit_env found s)
+      (step bare table (Some env) exit_env found s) out _ _
+      (same_step m ctx returned keeps false table (Some env) exit_env found found s)
+      (stmt_says around returned kr declared seen table env exit_env found t f kb s labels out l)
 
   pub suite_stands : (seen : NamesBound) (w : Walk) (env : Env) → w.env ≡ Some env → TableHere seen w.table
-      → EnvFits setting declared w.table env → OutFits setting declared w.table w.broken
+      → EnvFits around declared w.table env → OutFits around declared w.table w.exit_env
       → (b : Stmts) (labels : SuiteLabels b) (out : Option Env) → LawfulThere seen env b labels out
-      → Stands (texts (bound_by b) ++ seen) w.table (walk_suite kept w b) out
+      → StateFits (texts (bound_by b) ++ seen) w.table (walk_suite kept w b) out
   suite_stands seen w env e t f kb b labels out l =
-      stands (texts (bound_by b) ++ seen) w.table w.broken w.found (walk_suite kept w b) (walk_suite bare w b) out
-      _ _ (same_suite m ctx returned keeps false w w (record { table = refl; env = refl; broken = refl }) b)
-      (suite_says setting returned kr declared seen w env e t f kb b labels out l)
+      stands (texts (bound_by b) ++ seen) w.table w.exit_env w.found (walk_suite kept w b) (walk_suite bare w b) out
+      _ _ (same_suite m ctx returned keeps false w w (record { table = refl; env = refl; exit_env = refl }) b)
+      (suite_says around returned kr declared seen w env e t f kb b labels out l)
 
   -- where no run comes, nothing is noted
   pub none_noted : (v : Walk) → v.env ≡ None → (rest : Stmts) → (walk_suite kept v rest).found ≡ v.found
   none_noted v e no_stmts = refl
   none_noted v e (more_stmts s rest) =
-      none_noted (step kept v.table v.env v.broken v.found s)
-      (ap (λ (o : Option Env). (step kept v.table o v.broken v.found s).env) e) rest
-      ∙ ap (λ (o : Option Env). (step kept v.table o v.broken v.found s).found) e
+      none_noted (step kept v.table v.env v.exit_env v.found s)
+      (ap (λ (o : Option Env). (step kept v.table o v.exit_env v.found s).env) e) rest
+      ∙ ap (λ (o : Option Env). (step kept v.table o v.exit_env v.found s).found) e

@@ -10,7 +10,7 @@ use Rattle.pc_tree.specs.Tree.{while_loop, for_loop, conditional, no_stmts, more
 use Rattle.pc_tree.specs.Tree.{Module}
 use Rattle.pc_tree.specs.Stopping.{bound_by}
 use Rattle.pc_scope.specs.declared.resolution.NameMeaning.{NameMeaning}
-use Rattle.pc_scope.specs.declared.resolution.NameMeaning.TheVariants as res
+use Rattle.pc_scope.specs.declared.resolution.NameMeaning.TheVariants as meaning
 use Rattle.pc_types.specs.Tree.{Tree}
 use Rattle.pc_types.specs.Shape.{members}
 use Rattle.pc_annotations.specs.Annotations.{read_ann}
@@ -33,7 +33,7 @@ use Rattle.pc_module_rules.proofs.NotedNames.{noted_table, noted_env}
 pub record SameWalk (v w : Walk) : Type 0 where
   pub table : v.table ≡ w.table
   pub env : v.env ≡ w.env
-  pub broken : v.broken ≡ w.broken
+  pub exit_env : v.exit_env ≡ w.exit_env
 
 -- likewise with a name bound, and with branches
 pub record SameBinding (v w : BindingResult) : Type 0 where
@@ -44,7 +44,7 @@ pub record SameFork (v w : BranchesResult) : Type 0 where
   pub table : v.table ≡ w.table
   pub last : v.last ≡ w.last
   pub ways : v.ways ≡ w.ways
-  pub broken : v.broken ≡ w.broken
+  pub exit_env : v.exit_env ≡ w.exit_env
 
 module _ (m : Module) (ctx : Context) (returned : Tree) where
   -- the context of statements, where types are kept or not
@@ -74,7 +74,7 @@ module _ (m : Module) (ctx : Context) (returned : Tree) where
 
     pub same_value : (table : DeclaredTypes) (env : Env) (r : NameMeaning) (annotation : Option Tree) (e : Expr) (f g : List Note)
         → SameBinding (bind_value a table env r annotation e f) (bind_value b table env r annotation e g)
-    same_value table env (res.Local x) annotation e f g =
+    same_value table env (meaning.Local x) annotation e f g =
         let want = known_declared (bound_type table x) annotation in
         let is = same_label table env want e in
         record {
@@ -123,7 +123,7 @@ module _ (m : Module) (ctx : Context) (returned : Tree) where
 
     same_target : (table : DeclaredTypes) (head : Env) (r : NameMeaning) (p : Place) (t u : Tree) → t ≡ u → (f g : List Note)
         → SameBinding (bind_item a table head r p t f) (bind_item b table head r p u g)
-    same_target table head (res.Local x) p t u e f g = record {
+    same_target table head (meaning.Local x) p t u e f g = record {
       table = ap (λ (v : Tree). (bind_label b table head x (bound_type table x) p (clean v) g).table) e;
       env = ap (λ (v : Tree). (bind_label b table head x (bound_type table x) p (clean v) g).env) e;
     }
@@ -144,37 +144,37 @@ module _ (m : Module) (ctx : Context) (returned : Tree) where
     same_all h e = record {
       table = h.table ∙ ap (λ (x : Walk). x.table) e;
       env = h.env ∙ ap (λ (x : Walk). x.env) e;
-      broken = h.broken ∙ ap (λ (x : Walk). x.broken) e;
+      exit_env = h.exit_env ∙ ap (λ (x : Walk). x.exit_env) e;
     }
 
     mutual
-      pub same_step : (table : DeclaredTypes) (env : Option Env) (broken : Option Env) (f g : List Note) (s : Stmt)
-          → SameWalk (step a table env broken f s) (step b table env broken g s)
-      same_step table None broken f g s = record { table = refl; env = refl; broken = refl }
-      same_step table (Some env) broken f g (pass p) = record { table = refl; env = refl; broken = refl }
-      same_step table (Some env) broken f g (breaks p) = record { table = refl; env = refl; broken = refl }
-      same_step table (Some env) broken f g (continues p) = record { table = refl; env = refl; broken = refl }
-      same_step table (Some env) broken f g (returns p e) = record { table = refl; env = refl; broken = refl }
-      same_step table (Some env) broken f g (asserts p c e) = record { table = refl; env = refl; broken = refl }
-      same_step table (Some env) broken f g (annotated p n ann e) =
+      pub same_step : (table : DeclaredTypes) (env : Option Env) (exit_env : Option Env) (f g : List Note) (s : Stmt)
+          → SameWalk (step a table env exit_env f s) (step b table env exit_env g s)
+      same_step table None exit_env f g s = record { table = refl; env = refl; exit_env = refl }
+      same_step table (Some env) exit_env f g (pass p) = record { table = refl; env = refl; exit_env = refl }
+      same_step table (Some env) exit_env f g (breaks p) = record { table = refl; env = refl; exit_env = refl }
+      same_step table (Some env) exit_env f g (continues p) = record { table = refl; env = refl; exit_env = refl }
+      same_step table (Some env) exit_env f g (returns p e) = record { table = refl; env = refl; exit_env = refl }
+      same_step table (Some env) exit_env f g (asserts p c e) = record { table = refl; env = refl; exit_env = refl }
+      same_step table (Some env) exit_env f g (annotated p n ann e) =
           let h = same_annotated table env n ann e f g in
-          record { table = h.table; env = ap Some h.env; broken = refl }
-      same_step table (Some env) broken f g (assigns p t e) =
+          record { table = h.table; env = ap Some h.env; exit_env = refl }
+      same_step table (Some env) exit_env f g (assigns p t e) =
           let h = same_assigned table env t e f g in
-          record { table = h.table; env = ap Some h.env; broken = refl }
-      same_step table (Some env) broken f g (evaluates p e) = record { table = refl; env = refl; broken = refl }
-      same_step table (Some env) broken f g (while_loop p c body) =
+          record { table = h.table; env = ap Some h.env; exit_env = refl }
+      same_step table (Some env) exit_env f g (evaluates p e) = record { table = refl; env = refl; exit_env = refl }
+      same_step table (Some env) exit_env f g (while_loop p c body) =
           let head = head_at a table (bound_by body) env in
           let from : List Note → Walk = λ found. record {
             table = table;
             env = Some (narrowed_at a table true c head);
-            broken = Some (narrowed_at a table false c head);
+            exit_env = Some (narrowed_at a table false c head);
             found = found;
           } in
           let h = same_suite (from (f ++ finds_in (standing_here a table head) None c))
-          (from (g ++ finds_in (standing_here b table head) None c)) (record { table = refl; env = refl; broken = refl }) body in
-          record { table = h.table; env = h.broken; broken = refl }
-      same_step table (Some env) broken f g (for_loop p n e body) =
+          (from (g ++ finds_in (standing_here b table head) None c)) (record { table = refl; env = refl; exit_env = refl }) body in
+          record { table = h.table; env = h.exit_env; exit_env = refl }
+      same_step table (Some env) exit_env f g (for_loop p n e body) =
           let head = head_at a table (n ∷ bound_by body) env in
           let i = item_label_of a (standing_here a table env) e in
           let j = item_label_of b (standing_here b table env) e in
@@ -187,36 +187,36 @@ module _ (m : Module) (ctx : Context) (returned : Tree) where
           (bind_item a table head (ctx.resolve n.text) (place_of e) i.type x)))
           (inside_for b head (with_note b true (ctx.resolve n.text) n.place
           (bind_item b table head (ctx.resolve n.text) (place_of e) j.type y)))
-          (record { table = t.table; env = ap Some t.env; broken = refl }) body in
-          record { table = h.table; env = h.broken; broken = refl }
-      same_step table (Some env) broken f g (conditional p bs o) =
+          (record { table = t.table; env = ap Some t.env; exit_env = refl }) body in
+          record { table = h.table; env = h.exit_env; exit_env = refl }
+      same_step table (Some env) exit_env f g (conditional p bs o) =
           let from : List Note → BranchesResult = λ found. record {
             table = table;
             last = env;
             ways = None;
-            broken = broken;
+            exit_env = exit_env;
             found = found;
           } in
           let v = walk_branches a (from f) bs in
           let w = walk_branches b (from g) bs in
           let h = same_branches (from f) (from g)
-          (record { table = refl; last = refl; ways = refl; broken = refl }) bs in
-          let u = same_suite (record { table = v.table; env = Some v.last; broken = v.broken; found = v.found })
-          (record { table = w.table; env = Some w.last; broken = w.broken; found = w.found })
-          (record { table = h.table; env = ap Some h.last; broken = h.broken }) o in
+          (record { table = refl; last = refl; ways = refl; exit_env = refl }) bs in
+          let u = same_suite (record { table = v.table; env = Some v.last; exit_env = v.exit_env; found = v.found })
+          (record { table = w.table; env = Some w.last; exit_env = w.exit_env; found = w.found })
+          (record { table = h.table; env = ap Some h.last; exit_env = h.exit_env }) o in
           record {
             table = u.table;
             env = λ i. with_way ctx.bases (u.table i) (h.ways i) (u.env i);
-            broken = u.broken;
+            exit_env = u.exit_env;
           }
 
       pub same_suite : (v w : Walk) → SameWalk v w → (body : Stmts)
           → SameWalk (walk_suite a v body) (walk_suite b w body)
       same_suite v w h no_stmts = h
       same_suite v w h (more_stmts s rest) =
-          same_suite (step a v.table v.env v.broken v.found s) (step b w.table w.env w.broken w.found s)
-          (same_all (same_step v.table v.env v.broken v.found w.found s)
-          (λ i. step b (h.table i) (h.env i) (h.broken i) w.found s)) rest
+          same_suite (step a v.table v.env v.exit_env v.found s) (step b w.table w.env w.exit_env w.found s)
+          (same_all (same_step v.table v.env v.exit_env v.found w.found s)
+          (λ i. step b (h.table i) (h.env i) (h.exit_env i) w.found s)) rest
 
       same_branches : (v w : BranchesResult) → SameFork v w → (bs : Branches)
           → SameFork (walk_branches a v bs) (walk_branches b w bs)
@@ -225,19 +225,19 @@ module _ (m : Module) (ctx : Context) (returned : Tree) where
           let x : Walk = record {
             table = v.table;
             env = Some (narrowed_at a v.table true c v.last);
-            broken = v.broken;
+            exit_env = v.exit_env;
             found = v.found ++ finds_in (standing_here a v.table v.last) None c;
           } in
           let y : Walk = record {
             table = w.table;
             env = Some (narrowed_at b w.table true c w.last);
-            broken = w.broken;
+            exit_env = w.exit_env;
             found = w.found ++ finds_in (standing_here b w.table w.last) None c;
           } in
           let s = same_suite x y (record {
             table = h.table;
             env = λ i. Some (narrowed_at b (h.table i) true c (h.last i));
-            broken = h.broken;
+            exit_env = h.exit_env;
           }) body in
           let p = walk_suite a x body in
           let q = walk_suite b y body in
@@ -246,19 +246,19 @@ module _ (m : Module) (ctx : Context) (returned : Tree) where
             table = p.table;
             last = narrowed_at a v.table false c v.last;
             ways = with_way ctx.bases p.table v.ways p.env;
-            broken = p.broken;
+            exit_env = p.exit_env;
             found = p.found;
           })
           (record {
             table = q.table;
             last = narrowed_at b w.table false c w.last;
             ways = with_way ctx.bases q.table w.ways q.env;
-            broken = q.broken;
+            exit_env = q.exit_env;
             found = q.found;
           })
           (record {
             table = s.table;
             last = λ i. narrowed_at b (h.table i) false c (h.last i);
             ways = λ i. with_way ctx.bases (s.table i) (h.ways i) (s.env i);
-            broken = s.broken;
+            exit_env = s.exit_env;
           }) rest

@@ -4,7 +4,7 @@ use Rattle.std.specs.Prelude.{Bool as Test, true, false, ◌||◌, is_some, unwr
 use Rattle.std.specs.Prelude.{bytes_eq, slice_set}
 use Rattle.std.proofs.lemmas.Slice.Eq.{bytes_eq-Decides}
 use Rattle.std.proofs.lemmas.List.{get_or-set_same, get_or-set_other}
-use Rattle.pc_scope.specs.declared.resolution.NameMeaning.TheVariants as res
+use Rattle.pc_scope.specs.declared.resolution.NameMeaning.TheVariants as meaning
 use Rattle.pc_scope.specs.Resolution.{is_one_of}
 use Rattle.pc_types.specs.Tree.{Tree, Any}
 use Rattle.pc_flow.specs.Environment.{declared_type}
@@ -36,7 +36,7 @@ none_bound (suc n) (suc x) = none_bound n x
 module _ (ctx : Context) (count : ℕ) (names : NumberedLocals ctx count) where
   -- a name of a local is among those seen where its local has a type: it is bound first where there is none
   abbrev pub IsLabelled : NamesBound → List (Option Tree) → Type 0
-  IsLabelled seen os = (word : List ℕ) (x : ℕ) → ctx.resolve word ≡ res.Local x
+  IsLabelled seen os = (word : List ℕ) (x : ℕ) → ctx.resolve word ≡ meaning.Local x
       → is_one_of word seen ≡ is_some (bound_type os x)
 
   -- at first no name is seen, and no local has a type
@@ -45,7 +45,7 @@ module _ (ctx : Context) (count : ℕ) (names : NumberedLocals ctx count) where
 
   -- a name bound first
   pub labelled_first : (seen : NamesBound) (os : List (Option Tree)) (word : List ℕ) (x : ℕ) (t : Tree)
-      → length os ≡ count → ctx.resolve word ≡ res.Local x → IsLabelled seen os
+      → length os ≡ count → ctx.resolve word ≡ meaning.Local x → IsLabelled seen os
       → IsLabelled (word ∷ seen) (slice_set os x (Some t))
   labelled_first seen os word x t l i h w y j = go (bytes_eq w word) refl
     where
@@ -53,7 +53,7 @@ module _ (ctx : Context) (count : ℕ) (names : NumberedLocals ctx count) where
           ≡ is_some (bound_type (slice_set os x (Some t)) y)
       go true e =
           let is : w ≡ word = (bytes_eq-Decides w word).0 e in
-          let q : res.Local x ≡ res.Local y = sym i ∙ ap ctx.resolve (sym is) ∙ j in
+          let q : meaning.Local x ≡ meaning.Local y = sym i ∙ ap ctx.resolve (sym is) ∙ j in
           let same : x ≡ y = grind (arith, q) in
           let b : x < length os = subst (λ n. x < n) (sym l) (names.below word x i) in
           ap (λ c. c || is_one_of w seen) e
@@ -62,7 +62,7 @@ module _ (ctx : Context) (count : ℕ) (names : NumberedLocals ctx count) where
       go false e =
           ap (λ c. c || is_one_of w seen) e ∙ h w y j ∙ ap is_some (sym (get_or-set_other os x y (Some t) None (λ f.
           let q : x ≡ y = sym f in
-          let is : w ≡ word = names.apart w word y j (i ∙ ap res.Local q) in
+          let is : w ≡ word = names.apart w word y j (i ∙ ap meaning.Local q) in
           let yes : bytes_eq w word ≡ true = (bytes_eq-Decides w word).1 is in
           grind (arith, yes, e))))
 
@@ -78,7 +78,7 @@ module _ (ctx : Context) (count : ℕ) (names : NumberedLocals ctx count) where
 
   -- a name that is no local's
   pub labelled_other : (seen : NamesBound) (os : List (Option Tree)) (word : List ℕ)
-      → ((x : ℕ) → ctx.resolve word ≡ res.Local x → ⊥) → IsLabelled seen os → IsLabelled (word ∷ seen) os
+      → ((x : ℕ) → ctx.resolve word ≡ meaning.Local x → ⊥) → IsLabelled seen os → IsLabelled (word ∷ seen) os
   labelled_other seen os word other h w y j = go (bytes_eq w word) refl
     where
       go : (b : Test) → bytes_eq w word ≡ b → (bytes_eq w word || is_one_of w seen) ≡ is_some (bound_type os y)

@@ -44,8 +44,8 @@ flows_labelled bases label ts o h k = record {
       o h k;
 }
 
-module _ (setting : Surroundings) where
-  open setting use {whole as m, context as ctx, context_well_formed as ck, count, locals as names}
+module _ (around : Surroundings) where
+  open around use {whole as m, context as ctx, context_well_formed as ck, count, locals as names}
 
   -- ---- an expression, lawful with each table that has the types of the names bound so far
 
@@ -61,10 +61,10 @@ module _ (setting : Surroundings) where
       0 where
     pub labels : Labels e
     pub well_formed : IsWellFormed ctx.bases (type_of e labels)
-    pub lawful : (F : List Tree) → IsDeclaredTable setting F → Agree ctx ds F seen → Lawful ctx F env want e labels
+    pub lawful : (F : List Tree) → IsDeclaredTable around F → Agree ctx ds F seen → Lawful ctx F env want e labels
 
   pub expr_labelled : (ds : List Tree) (seen : NamesBound) (env : Env) (want : Option Tree) (e : Expr)
-      → IsDeclaredTable setting ds → GoesByNames setting ds seen env → IsWellFormedIfAny ctx.bases want
+      → IsDeclaredTable around ds → GoesByNames around ds seen env → IsWellFormedIfAny ctx.bases want
       → ExprLabelled ds seen env want e
   expr_labelled ds seen env want e g h k =
       let f = has_labels ctx ds env want e ck g.well_formed h.well_formed k in
@@ -81,11 +81,11 @@ module _ (setting : Surroundings) where
   pub record ItemsLabelled (ds : List Tree) (seen : NamesBound) (env : Env) (seat : ℕ → Seat) (es : Exprs) : Type
       0 where
     pub labels : ItemsLabels es
-    pub lawful : (F : List Tree) → IsDeclaredTable setting F → Agree ctx ds F seen
+    pub lawful : (F : List Tree) → IsDeclaredTable around F → Agree ctx ds F seen
         → LawfulItems ctx F env seat es labels
 
-  items_labelled : (ds : List Tree) (seen : NamesBound) (env : Env) → IsDeclaredTable setting ds
-      → GoesByNames setting ds seen env → (seat : ℕ → Seat) → ((i : ℕ) → SeatWellFormed ctx.bases (seat i))
+  items_labelled : (ds : List Tree) (seen : NamesBound) (env : Env) → IsDeclaredTable around ds
+      → GoesByNames around ds seen env → (seat : ℕ → Seat) → ((i : ℕ) → SeatWellFormed ctx.bases (seat i))
       → (es : Exprs) → ItemsLabelled ds seen env seat es
   items_labelled ds seen env g h seat k no_exprs = record { labels = tt; lawful = λ F gF s. tt }
   items_labelled ds seen env g h seat k (more_exprs e es) =
@@ -102,11 +102,11 @@ module _ (setting : Surroundings) where
   pub record KeywordsLabelled (ds : List Tree) (seen : NamesBound) (env : Env) (seat : List ℕ → Seat)
       (before : List (List ℕ)) (es : Keywords) : Type 0 where
     pub labels : KeywordsLabels es
-    pub lawful : (F : List Tree) → IsDeclaredTable setting F → Agree ctx ds F seen
+    pub lawful : (F : List Tree) → IsDeclaredTable around F → Agree ctx ds F seen
         → LawfulKeywords ctx F env seat before es labels
 
-  keywords_labelled : (ds : List Tree) (seen : NamesBound) (env : Env) → IsDeclaredTable setting ds
-      → GoesByNames setting ds seen env → (seat : List ℕ → Seat)
+  keywords_labelled : (ds : List Tree) (seen : NamesBound) (env : Env) → IsDeclaredTable around ds
+      → GoesByNames around ds seen env → (seat : List ℕ → Seat)
       → ((word : List ℕ) → SeatWellFormed ctx.bases (seat word)) → (before : List (List ℕ)) (es : Keywords)
       → KeywordsLabelled ds seen env seat before es
   keywords_labelled ds seen env g h seat k before no_keywords = record { labels = tt; lawful = λ F gF s. tt }
@@ -129,7 +129,7 @@ module _ (setting : Surroundings) where
     pub labels : Labels e
     pub item : Label
     pub well_formed : IsWellFormed ctx.bases item.type
-    pub lawful : (F : List Tree) → IsDeclaredTable setting F → Agree ctx ds F seen
+    pub lawful : (F : List Tree) → IsDeclaredTable around F → Agree ctx ds F seen
         → LawfulIterable m ctx F env e labels item
 
   -- likewise of values
@@ -137,11 +137,11 @@ module _ (setting : Surroundings) where
     pub labels : Labels e
     pub item : Label
     pub well_formed : IsWellFormed ctx.bases item.type
-    pub lawful : (F : List Tree) → IsDeclaredTable setting F → Agree ctx ds F seen
+    pub lawful : (F : List Tree) → IsDeclaredTable around F → Agree ctx ds F seen
         → LawfulValues m ctx F env e labels item
 
-  values_labelled : (ds : List Tree) (seen : NamesBound) (env : Env) → IsDeclaredTable setting ds
-      → GoesByNames setting ds seen env → (e : Expr) → ValuesLabelled ds seen env e
+  values_labelled : (ds : List Tree) (seen : NamesBound) (env : Env) → IsDeclaredTable around ds
+      → GoesByNames around ds seen env → (e : Expr) → ValuesLabelled ds seen env e
   values_labelled ds seen env g h e =
       let v = expr_labelled ds seen env None e g h tt in
       record {
@@ -155,11 +155,11 @@ module _ (setting : Surroundings) where
   pub record RangeLabelled (ds : List Tree) (seen : NamesBound) (env : Env) (c : Expr) (args : Exprs) (kws : Keywords)
       (p : Place) : Type 0 where
     pub labels : Labels (call p c args kws)
-    pub lawful : (F : List Tree) → IsDeclaredTable setting F → Agree ctx ds F seen
+    pub lawful : (F : List Tree) → IsDeclaredTable around F → Agree ctx ds F seen
         → LawfulRange m ctx F env c args kws p labels
 
-  range_labelled : (ds : List Tree) (seen : NamesBound) (env : Env) → IsDeclaredTable setting ds
-      → GoesByNames setting ds seen env → (c : Expr) (args : Exprs) (kws : Keywords) (p : Place)
+  range_labelled : (ds : List Tree) (seen : NamesBound) (env : Env) → IsDeclaredTable around ds
+      → GoesByNames around ds seen env → (c : Expr) (args : Exprs) (kws : Keywords) (p : Place)
       → RangeLabelled ds seen env c args kws p
   range_labelled ds seen env g h c args kws p =
       let v = expr_labelled ds seen env None c g h tt in
@@ -205,12 +205,12 @@ module _ (setting : Surroundings) where
     pub labels : Labels (call p c args kws)
     pub item : Label
     pub well_formed : IsWellFormed ctx.bases item.type
-    pub lawful : (F : List Tree) → IsDeclaredTable setting F → Agree ctx ds F seen
+    pub lawful : (F : List Tree) → IsDeclaredTable around F → Agree ctx ds F seen
         → RangeOrValues m ctx F b (LawfulRange m ctx F env c args kws p labels
         × (item ≡ range_item (arguments_given args kws))) (LawfulValues m ctx F env (call p c args kws) labels item)
 
-  call_labelled : (b : Test) (ds : List Tree) (seen : NamesBound) (env : Env) → IsDeclaredTable setting ds
-      → GoesByNames setting ds seen env → (c : Expr) (args : Exprs) (kws : Keywords) (p : Place)
+  call_labelled : (b : Test) (ds : List Tree) (seen : NamesBound) (env : Env) → IsDeclaredTable around ds
+      → GoesByNames around ds seen env → (c : Expr) (args : Exprs) (kws : Keywords) (p : Place)
       → CallLabelled b ds seen env c args kws p
   call_labelled true ds seen env g h c args kws p =
       let r = range_labelled ds seen env g h c args kws p in
@@ -226,8 +226,8 @@ module _ (setting : Surroundings) where
       let v = values_labelled ds seen env g h (call p c args kws) in
       record { labels = v.labels; item = v.item; well_formed = v.well_formed; lawful = v.lawful }
 
-  pub iterable_labelled : (ds : List Tree) (seen : NamesBound) (env : Env) → IsDeclaredTable setting ds
-      → GoesByNames setting ds seen env → (e : Expr) → IterableLabelled ds seen env e
+  pub iterable_labelled : (ds : List Tree) (seen : NamesBound) (env : Env) → IsDeclaredTable around ds
+      → GoesByNames around ds seen env → (e : Expr) → IterableLabelled ds seen env e
   iterable_labelled ds seen env g h (call p (name n) args kws) =
       let v = call_labelled (is_range (ctx.resolve n.text)) ds seen env g h (name n) args kws p in
       record { labels = v.labels; item = v.item; well_formed = v.well_formed; lawful = v.lawful }

@@ -127,7 +127,7 @@ module _ (m : Module) where
         let start = entry_labelled here (replicate count Any) [] (none_assigned count) table none
         (entry_parameters m owner f) (entries_well_formed m owner f) in
         let body = suite_labelled here (return_type m f) (returned_well_formed m f) start.table
-        (names_entered [] (entry_parameters m owner f)) _ start.is_table start.settled f.body in
+        (names_entered [] (entry_parameters m owner f)) _ start.is_table start.by_names f.body in
         let params = params_labelled m (receiver owner) f.params in
         let end = returns_labelled (bases_of m) (return_type m f) body.out (smaller m) (returned_well_formed m f) in
         record {

@@ -1,5 +1,5 @@
 -- The names of a function as locals: as many as there are, no two the same.
-use Rattle.pc_scope.specs.declared.resolution.NameMeaning.TheVariants as res
+use Rattle.pc_scope.specs.declared.resolution.NameMeaning.TheVariants as meaning
 use Rattle.std.proofs.Common.{List, [], ap, arith, length, refl, subst, suc, sym, zero, ℕ, ◌<◌, ◌∙◌, ◌∷◌, ◌≡◌}
 use Rattle.std.specs.Prelude.{Bool as Test, None, Option, Some, bytes_eq, false, if◌then◌else◌, slice_get, true}
 use Rattle.std.specs.Option.{option_map}
@@ -44,47 +44,47 @@ get_below (t ∷ ts) (suc x) word e = let h = get_below ts x word e in omega ari
 
 -- no name that the items of a module bind means a local
 bound_local : (k f c : ℕ) (items : List Item) (word : List ℕ) (x : ℕ) → bound_first k f c items word
-    ≡ Some (res.Local x) → ⊥
+    ≡ Some (meaning.Local x) → ⊥
 bound_local k f c [] word x e = grind (arith, e)
 bound_local k f c (constant_item p i ∷ rest) word x e = go (bytes_eq i.name.text word) e
     (λ h. bound_local (suc k) f c rest word x h)
   where
-    go : (b : Test) → (if b then Some (res.Const k) else bound_first (suc k) f c rest word) ≡ Some (res.Local x)
-        → (bound_first (suc k) f c rest word ≡ Some (res.Local x) → ⊥) → ⊥
-    go true e h = let q : res.Const k ≡ res.Local x = same_Some _ _ e in grind (arith, q)
+    go : (b : Test) → (if b then Some (meaning.Const k) else bound_first (suc k) f c rest word) ≡ Some (meaning.Local x)
+        → (bound_first (suc k) f c rest word ≡ Some (meaning.Local x) → ⊥) → ⊥
+    go true e h = let q : meaning.Const k ≡ meaning.Local x = same_Some _ _ e in grind (arith, q)
     go false e h = h e
 bound_local k f c (class_item p i ∷ rest) word x e = go (bytes_eq i.name.text word) e
     (λ h. bound_local k f (suc c) rest word x h)
   where
-    go : (b : Test) → (if b then Some (res.Class c) else bound_first k f (suc c) rest word) ≡ Some (res.Local x)
-        → (bound_first k f (suc c) rest word ≡ Some (res.Local x) → ⊥) → ⊥
-    go true e h = let q : res.Class c ≡ res.Local x = same_Some _ _ e in grind (arith, q)
+    go : (b : Test) → (if b then Some (meaning.Class c) else bound_first k f (suc c) rest word) ≡ Some (meaning.Local x)
+        → (bound_first k f (suc c) rest word ≡ Some (meaning.Local x) → ⊥) → ⊥
+    go true e h = let q : meaning.Class c ≡ meaning.Local x = same_Some _ _ e in grind (arith, q)
     go false e h = h e
 bound_local k f c (def_item p i ∷ rest) word x e = go (bytes_eq i.name.text word) e
     (λ h. bound_local k (suc f) c rest word x h)
   where
-    go : (b : Test) → (if b then Some (res.Func f) else bound_first k (suc f) c rest word) ≡ Some (res.Local x)
-        → (bound_first k (suc f) c rest word ≡ Some (res.Local x) → ⊥) → ⊥
-    go true e h = let q : res.Func f ≡ res.Local x = same_Some _ _ e in grind (arith, q)
+    go : (b : Test) → (if b then Some (meaning.Func f) else bound_first k (suc f) c rest word) ≡ Some (meaning.Local x)
+        → (bound_first k (suc f) c rest word ≡ Some (meaning.Local x) → ⊥) → ⊥
+    go true e h = let q : meaning.Func f ≡ meaning.Local x = same_Some _ _ e in grind (arith, q)
     go false e h = h e
 
 -- nor is what a name means in a module
-pub module_local : (m : Module) (word : List ℕ) (x : ℕ) → resolve_in_module m word ≡ res.Local x → ⊥
+pub module_local : (m : Module) (word : List ℕ) (x : ℕ) → resolve_in_module m word ≡ meaning.Local x → ⊥
 module_local m word x e = go (builtin_of word) (bound_first 0 0 0 m.items word) refl e
   where
     go : (b : Option Builtin) (r : Option NameMeaning) → bound_first 0 0 0 m.items word ≡ r
-        → or_meaning (builtin_meaning b) (or_meaning r res.None) ≡ res.Local x → ⊥
+        → or_meaning (builtin_meaning b) (or_meaning r meaning.None) ≡ meaning.Local x → ⊥
     go (Some b) r i e = grind (arith, e)
     go None None i e = grind (arith, e)
     go None (Some r) i e = bound_local 0 0 0 m.items word x (i ∙ ap Some e)
 
 -- a name that means a local stands at its number
-local_get : (m : Module) (names : List (List ℕ)) (word : List ℕ) (x : ℕ) → resolve_among m names word ≡ res.Local x
+local_get : (m : Module) (names : List (List ℕ)) (word : List ℕ) (x : ℕ) → resolve_among m names word ≡ meaning.Local x
     → slice_get names x ≡ Some word
 local_get m names word x e = go (index_of word names) refl e
   where
     go : (o : Option ℕ) → index_of word names ≡ o → or_meaning (local_meaning o) (resolve_in_module m word)
-        ≡ res.Local x → slice_get names x ≡ Some word
+        ≡ meaning.Local x → slice_get names x ≡ Some word
     go None i e = absurd (module_local m word x e)
     go (Some y) i e = let q : y ≡ x = grind (arith, e) in index_get word names x (i ∙ ap Some q)
 

@@ -7,7 +7,7 @@ use Rattle.std.specs.Prelude.{Bool as Test, true, false, if◌then◌else◌}
 use Rattle.pc_source.specs.declared.place.Place.{Place}
 use Rattle.pc_tree.specs.Tree.{Name}
 use Rattle.pc_scope.specs.declared.resolution.NameMeaning.{NameMeaning}
-use Rattle.pc_scope.specs.declared.resolution.NameMeaning.TheVariants as res
+use Rattle.pc_scope.specs.declared.resolution.NameMeaning.TheVariants as meaning
 use Rattle.pc_types.specs.Tree.{Tree}
 use Rattle.pc_flow.specs.Agreement.{SameWhere}
 use Rattle.pc_flow.specs.Environment.{Env, current, declared_type, assigned_type}
@@ -79,12 +79,12 @@ same_long [] (e ∷ es) env h = absurd h
 same_long (d ∷ ds) [] env h = absurd h
 same_long (d ∷ ds) (e ∷ es) [] h = absurd h
 
-module _ (setting : Surroundings) (declared : List Tree) where
-  open setting use {whole as m, context as ctx}
+module _ (around : Surroundings) (declared : List Tree) where
+  open around use {whole as m, context as ctx}
 
   -- a bound name with its types: its declared type, and its type in this environment if it has a value
   abbrev pub bound_as : (valued : Test) → Name → NameMeaning → Env → List NameAt
-  bound_as valued n (res.Local x) after = record {
+  bound_as valued n (meaning.Local x) after = record {
     place = n.place;
     declared = declared_type declared x;
     current = if valued then current after x else None;
@@ -92,43 +92,43 @@ module _ (setting : Surroundings) (declared : List Tree) where
   bound_as valued n r after = []
 
   module _ (seen : NamesBound) (n : Name) where
-    local_named : (valued : Test) (b : BindingResult) (after : Env) (x : ℕ) → ctx.resolve n.text ≡ res.Local x
-        → TableFits setting declared (n.text ∷ seen) b.table → b.env ≡ after
-        → NamesMore b.found (b.found ++ name_note valued b.table b.env (res.Local x) n.place)
-        (bound_as valued n (res.Local x) after)
+    local_named : (valued : Test) (b : BindingResult) (after : Env) (x : ℕ) → ctx.resolve n.text ≡ meaning.Local x
+        → TableFits around declared (n.text ∷ seen) b.table → b.env ≡ after
+        → NamesMore b.found (b.found ++ name_note valued b.table b.env (meaning.Local x) n.place)
+        (bound_as valued n (meaning.Local x) after)
     local_named valued b after x i fits is =
         let notes : Option Tree → Env → List Note = λ o env. local_note o (if valued then current env x else None)
         n.place in
         let here : bound_type b.table x ≡ Some (declared_type declared x) = fits.bound n.text x (here_among n.text seen)
         i in
-        let same : name_note valued b.table b.env (res.Local x) n.place ≡ notes (Some (declared_type declared x)) after =
+        let same : name_note valued b.table b.env (meaning.Local x) n.place ≡ notes (Some (declared_type declared x)) after =
         λ j. notes (here j) (is j) in
         record {
-          are = flat_map-append name_of_note b.found (name_note valued b.table b.env (res.Local x) n.place)
+          are = flat_map-append name_of_note b.found (name_note valued b.table b.env (meaning.Local x) n.place)
               ∙ ap (λ (xs : List Note). names_of_notes b.found ++ names_of_notes xs) same;
         }
 
     -- the note of a bound name names it so
     pub note_names : (valued : Test) (b : BindingResult) (after : Env) (r : NameMeaning) → ctx.resolve n.text ≡ r
-        → TableFits setting declared (n.text ∷ seen) b.table → b.env ≡ after
+        → TableFits around declared (n.text ∷ seen) b.table → b.env ≡ after
         → NamesMore b.found (noted_binding true valued r n.place b).found (bound_as valued n r after)
-    note_names valued b after (res.Local x) i fits is = local_named valued b after x i fits is
-    note_names valued b after (res.Const c) i fits is = more_nameless b.found [] (record { are = refl })
-    note_names valued b after (res.Func c) i fits is = more_nameless b.found [] (record { are = refl })
-    note_names valued b after (res.Class c) i fits is = more_nameless b.found [] (record { are = refl })
-    note_names valued b after (res.Builtin c) i fits is = more_nameless b.found [] (record { are = refl })
-    note_names valued b after res.None i fits is = more_nameless b.found [] (record { are = refl })
+    note_names valued b after (meaning.Local x) i fits is = local_named valued b after x i fits is
+    note_names valued b after (meaning.Const c) i fits is = more_nameless b.found [] (record { are = refl })
+    note_names valued b after (meaning.Func c) i fits is = more_nameless b.found [] (record { are = refl })
+    note_names valued b after (meaning.Class c) i fits is = more_nameless b.found [] (record { are = refl })
+    note_names valued b after (meaning.Builtin c) i fits is = more_nameless b.found [] (record { are = refl })
+    note_names valued b after meaning.None i fits is = more_nameless b.found [] (record { are = refl })
 
     -- a local that a type was assigned to
-    pub assigned_named : (table : DeclaredTypes) → TableFits setting declared seen table → (env : Env)
-        → EnvFits setting declared table env → (x : ℕ) → ctx.resolve n.text ≡ res.Local x → (from : Tree)
+    pub assigned_named : (table : DeclaredTypes) → TableFits around declared seen table → (env : Env)
+        → EnvFits around declared table env → (x : ℕ) → ctx.resolve n.text ≡ meaning.Local x → (from : Tree)
         (flows : FlowLabels) (after : Env) → after ≡ bound_env m ctx declared env x from flows
-        → bound_as true n (res.Local x) after ≡ name_bound ctx.resolve declared n (res.Local x) from flows
+        → bound_as true n (meaning.Local x) after ≡ name_bound ctx.resolve declared n (meaning.Local x) from flows
     assigned_named table t env f x i from flows after is =
         let type = assigned_type (declared_type declared x) from (only_code flows) in
-        let long : length env ≡ setting.count = same_long declared (type_table table) env f.same
-        ∙ long_types setting declared table ∙ t.long in
-        let below : x < length env = subst (λ (c : ℕ). x < c) (sym long) (setting.locals.below n.text x i) in
+        let long : length env ≡ around.count = same_long declared (type_table table) env f.same
+        ∙ long_types around declared table ∙ t.long in
+        let below : x < length env = subst (λ (c : ℕ). x < c) (sym long) (around.locals.below n.text x i) in
         let value : current after x ≡ Some type = ap (λ (e : Env). current e x) is
         ∙ get_or-set_same env x (Some type) None below in
         let row : Option Tree → List NameAt = λ c. record {
@@ -141,9 +141,9 @@ module _ (setting : Surroundings) (declared : List Tree) where
     -- a name annotated without a value
     pub declared_named : (r : NameMeaning) (after : Env)
         → bound_as false n r after ≡ name_declared ctx.resolve declared n r
-    declared_named (res.Local x) after = refl
-    declared_named (res.Const c) after = refl
-    declared_named (res.Func c) after = refl
-    declared_named (res.Class c) after = refl
-    declared_named (res.Builtin c) after = refl
-    declared_named res.None after = refl
+    declared_named (meaning.Local x) after = refl
+    declared_named (meaning.Const c) after = refl
+    declared_named (meaning.Func c) after = refl
+    declared_named (meaning.Class c) after = refl
+    declared_named (meaning.Builtin c) after = refl
+    declared_named meaning.None after = refl

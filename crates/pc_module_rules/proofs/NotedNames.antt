@@ -3,7 +3,7 @@ use Rattle.std.proofs.Common.{◌≡◌, List, [], ◌∷◌, Option, Some, None
 use Rattle.std.specs.Prelude.{Bool as Test, if◌then◌else◌}
 use Rattle.pc_source.specs.declared.place.Place.{Place}
 use Rattle.pc_scope.specs.declared.resolution.NameMeaning.{NameMeaning}
-use Rattle.pc_scope.specs.declared.resolution.NameMeaning.TheVariants as res
+use Rattle.pc_scope.specs.declared.resolution.NameMeaning.TheVariants as meaning
 use Rattle.pc_types.specs.Tree.{Tree}
 use Rattle.pc_flow.specs.Environment.{Env, current}
 use Rattle.pc_notes.specs.Notes.{Note, named}
@@ -19,13 +19,13 @@ module _ (P : List Note → Type 0) (none : P []) (one : (p : Place) (d : Tree) 
     -- a property that holds of no notes, and of each single note of a name, holds of the notes of a name
     pub note_holds : (valued : Test) (table : DeclaredTypes) (env : Env) (r : NameMeaning) (p : Place)
         → P (name_note valued table env r p)
-    note_holds valued table env (res.Local x) p = local_holds (bound_type table x)
+    note_holds valued table env (meaning.Local x) p = local_holds (bound_type table x)
         (if valued then current env x else None) p
-    note_holds valued table env (res.Const i) p = none
-    note_holds valued table env (res.Func i) p = none
-    note_holds valued table env (res.Class i) p = none
-    note_holds valued table env (res.Builtin i) p = none
-    note_holds valued table env res.None p = none
+    note_holds valued table env (meaning.Const i) p = none
+    note_holds valued table env (meaning.Func i) p = none
+    note_holds valued table env (meaning.Class i) p = none
+    note_holds valued table env (meaning.Builtin i) p = none
+    note_holds valued table env meaning.None p = none
 
 -- the types after a binding are the same with the note of its name
 pub noted_table : (keeps valued : Test) (r : NameMeaning) (p : Place) (b : BindingResult)

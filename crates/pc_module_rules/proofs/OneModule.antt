@@ -13,7 +13,7 @@ use Rattle.pc_tree.specs.Stopping.{bound_by}
 use Rattle.pc_scope.specs.declared.resolution.Owner.{Owner}
 use Rattle.pc_scope.specs.declared.resolution.Owner.TheVariants as owners
 use Rattle.pc_scope.specs.declared.resolution.NameMeaning.{NameMeaning}
-use Rattle.pc_scope.specs.declared.resolution.NameMeaning.TheVariants as res
+use Rattle.pc_scope.specs.declared.resolution.NameMeaning.TheVariants as meaning
 use Rattle.pc_scope.specs.Reserved.{is_builtin_name}
 use Rattle.pc_scope.specs.Bindings.{texts, param_names}
 use Rattle.pc_scope.specs.Resolution.{index_of, is_one_of, first_of_each, receiver, entry_texts, locals, local_meaning}
@@ -169,33 +169,33 @@ module _ (m : Module) (ctx : Context) (ds ds' : List Tree) where
   Sames seen = SameSeen m ctx ds ds' seen
 
   text_more : (seen : NamesBound) (word : List ℕ) → Sames seen
-      → ((x : ℕ) → ctx.resolve word ≡ res.Local x → declared_type ds x ≡ declared_type ds' x) → Sames (word ∷ seen)
+      → ((x : ℕ) → ctx.resolve word ≡ meaning.Local x → declared_type ds x ≡ declared_type ds' x) → Sames (word ∷ seen)
   text_more seen word h s w x among r = elim (or_cases (bytes_eq w word) (is_one_of w seen) among) [
     | inl e ↦ s x (ap ctx.resolve (sym ((bytes_eq-Decides w word).0 e)) ∙ r)
     | inr k ↦ h w x k r
   ]
 
   entry_same : (b : Test) (r : NameMeaning) (t : Tree) (x : ℕ) → (b ≡ false → declared_type ds x ≡ declared_type ds' x)
-      → r ≡ res.Local x → DeclaredEntry ds b r t → DeclaredEntry ds' b r t → declared_type ds x ≡ declared_type ds' x
+      → r ≡ meaning.Local x → DeclaredEntry ds b r t → DeclaredEntry ds' b r t → declared_type ds x ≡ declared_type ds' x
   entry_same false r t x s i h h' = s refl
-  entry_same true (res.Local y) t x s i h h' = let is : y ≡ x = local_inj i in
+  entry_same true (meaning.Local y) t x s i h h' = let is : y ≡ x = local_inj i in
       subst (λ z. declared_type ds z ≡ declared_type ds' z) is (h ∙ sym h')
-  entry_same true (res.Const c) t x s i h h' = absurd (grind (arith, i))
-  entry_same true (res.Func c) t x s i h h' = absurd (grind (arith, i))
-  entry_same true (res.Class c) t x s i h h' = absurd (grind (arith, i))
-  entry_same true (res.Builtin c) t x s i h h' = absurd (grind (arith, i))
-  entry_same true res.None t x s i h h' = absurd (grind (arith, i))
+  entry_same true (meaning.Const c) t x s i h h' = absurd (grind (arith, i))
+  entry_same true (meaning.Func c) t x s i h h' = absurd (grind (arith, i))
+  entry_same true (meaning.Class c) t x s i h h' = absurd (grind (arith, i))
+  entry_same true (meaning.Builtin c) t x s i h h' = absurd (grind (arith, i))
+  entry_same true meaning.None t x s i h h' = absurd (grind (arith, i))
 
-  entered_kept : (b : Test) (r : NameMeaning) (t : Tree) (env : Env) → ((x : ℕ) → r ≡ res.Local x
+  entered_kept : (b : Test) (r : NameMeaning) (t : Tree) (env : Env) → ((x : ℕ) → r ≡ meaning.Local x
       → declared_type ds x ≡ declared_type ds' x) → SameWhere ds ds' env
       → SameWhere ds ds' (assigned_at_entry b r t env)
-  entered_kept true (res.Local x) t env s k = assign_kept ds ds' env x t k (s x refl)
+  entered_kept true (meaning.Local x) t env s k = assign_kept ds ds' env x t k (s x refl)
   entered_kept false r t env s k = k
-  entered_kept true (res.Const c) t env s k = k
-  entered_kept true (res.Func c) t env s k = k
-  entered_kept true (res.Class c) t env s k = k
-  entered_kept true (res.Builtin c) t env s k = k
-  entered_kept true res.None t env s k = k
+  entered_kept true (meaning.Const c) t env s k = k
+  entered_kept true (meaning.Func c) t env s k = k
+  entered_kept true (meaning.Class c) t env s k = k
+  entered_kept true (meaning.Builtin c) t env s k = k
+  entered_kept true meaning.None t env s k = k
 
   record EntryOne (seen : NamesBound) (env : Env) : Type 0 where
     seen_same : Sames seen
@@ -206,7 +206,7 @@ module _ (m : Module) (ctx : Context) (ds ds' : List Tree) where
       → EntryOne (names_entered seen ps) (entry_env ctx.resolve seen ps env)
   entry_one seen [] env s k h h' = record { seen_same = s; kept = k }
   entry_one seen (p ∷ ps) env s k h h' =
-      let same : (x : ℕ) → ctx.resolve p.name ≡ res.Local x → declared_type ds x ≡ declared_type ds' x =
+      let same : (x : ℕ) → ctx.resolve p.name ≡ meaning.Local x → declared_type ds x ≡ declared_type ds' x =
       λ x i. entry_same (not (is_one_of p.name seen)) (ctx.resolve p.name) p.type x
       (λ e. s p.name x (not_false (is_one_of p.name seen) e) i) i h.0 h'.0 in
       entry_one (p.name ∷ seen) ps (assigned_at_entry (not (is_one_of p.name seen)) (ctx.resolve p.name) p.type env)

@@ -10,7 +10,7 @@ use Rattle.pc_tree.specs.Tree.{more_branches, Module}
 use Rattle.pc_tree.specs.Stopping.{bound_by, bound_by_stmt, bound_by_branches}
 use Rattle.pc_source.specs.declared.place.Place.{Place}
 use Rattle.pc_scope.specs.declared.resolution.NameMeaning.{NameMeaning}
-use Rattle.pc_scope.specs.declared.resolution.NameMeaning.TheVariants as res
+use Rattle.pc_scope.specs.declared.resolution.NameMeaning.TheVariants as meaning
 use Rattle.pc_scope.specs.Bindings.{texts}
 use Rattle.pc_scope.specs.Resolution.{is_one_of}
 use Rattle.pc_scope.specs.Reach.{completes}
@@ -68,7 +68,7 @@ among_both word (n ∷ a) b seen h = elim (or_cases (bytes_eq word n.text) (is_o
 pub some_inj : {A : Type 0} {x y : A} → Some x ≡ Some y → x ≡ y
 some_inj e = grind arith
 
-pub local_inj : {x y : ℕ} → res.Local x ≡ res.Local y → x ≡ y
+pub local_inj : {x y : ℕ} → meaning.Local x ≡ meaning.Local y → x ≡ y
 local_inj e = grind arith
 
 pub not_false : (b : Test) → not b ≡ false → b ≡ true
@@ -88,11 +88,11 @@ assign_kept (d ∷ ds) (d' ∷ ds') [] x u h e = absurd h
 module _ (m : Module) (ctx : Context) (ds ds' : List Tree) where
   -- the declared types of the locals seen so far are the same
   abbrev pub SameSeen : NamesBound → Type 0
-  SameSeen seen = (word : List ℕ) (x : ℕ) → IsAmong word seen → ctx.resolve word ≡ res.Local x
+  SameSeen seen = (word : List ℕ) (x : ℕ) → IsAmong word seen → ctx.resolve word ≡ meaning.Local x
       → declared_type ds x ≡ declared_type ds' x
 
   abbrev SameName : Name → Type 0
-  SameName n = (x : ℕ) → ctx.resolve n.text ≡ res.Local x → declared_type ds x ≡ declared_type ds' x
+  SameName n = (x : ℕ) → ctx.resolve n.text ≡ meaning.Local x → declared_type ds x ≡ declared_type ds' x
 
   pub seen_more : (seen : NamesBound) (n : Name) → SameSeen seen → SameName n → SameSeen (n.text ∷ seen)
   seen_more seen n h s word x among r = elim (or_cases (bytes_eq word n.text) (is_one_of word seen) among) [
@@ -148,12 +148,12 @@ module _ (m : Module) (ctx : Context) (ds ds' : List Tree) where
     pub kept : SameWhere ds ds' after
     pub same : SameName n
 
-  first_seen : (seen : NamesBound) (n : Name) (x : ℕ) → SameSeen seen → ctx.resolve n.text ≡ res.Local x
+  first_seen : (seen : NamesBound) (n : Name) (x : ℕ) → SameSeen seen → ctx.resolve n.text ≡ meaning.Local x
       → is_first seen n ≡ false → declared_type ds x ≡ declared_type ds' x
   first_seen seen n x h r e = h n.text x (not_false (is_one_of n.text seen) e) r
 
   -- a name that means no local binds nothing
-  plain_one : (env : Env) → SameWhere ds ds' env → (n : Name) → ((x : ℕ) → ctx.resolve n.text ≡ res.Local x → ⊥)
+  plain_one : (env : Env) → SameWhere ds ds' env → (n : Name) → ((x : ℕ) → ctx.resolve n.text ≡ meaning.Local x → ⊥)
       → (e : Expr) (mk mk' : Labels e) (fl fl' : FlowLabels) (after after' : Env) → Lawful ctx ds env None e mk
       → fl ≡ [] → after ≡ env → Lawful ctx ds' env None e mk' → fl' ≡ [] → after' ≡ env
       → BindingOne mk mk' fl fl' after after' n
@@ -171,7 +171,7 @@ module _ (m : Module) (ctx : Context) (ds ds' : List Tree) where
       → ctx.resolve n.text ≡ r → (a : Option Tree) (e : Expr) (mk mk' : Labels e) (fl fl' : FlowLabels)
       (after after' : Env) → LawfulBinding m ctx ds env seen n r a e mk fl after
       → LawfulBinding m ctx ds' env seen n r a e mk' fl' after' → BindingOne mk mk' fl fl' after after' n
-  binding_one seen env s k n (res.Local x) i a e mk mk' fl fl' after after' h h' =
+  binding_one seen env s k n (meaning.Local x) i a e mk mk' fl fl' after after' h h' =
       let q = local_one env k x (is_first seen n) (first_seen seen n x s i) a e mk mk' h.value h.at_first h'.value
       h'.at_first in
       let f : fl ≡ fl' = into_one ctx.bases (whole_label e mk') (declared_type ds' x ∷ []) fl fl'
@@ -187,19 +187,19 @@ module _ (m : Module) (ctx : Context) (ds ds' : List Tree) where
         same = λ y j. let is : x ≡ y = local_inj (sym i ∙ j) in subst (λ z. declared_type ds z ≡ declared_type ds' z) is
             q.same;
       }
-  binding_one seen env s k n (res.Const c) i a e mk mk' fl fl' after after' h h' =
+  binding_one seen env s k n (meaning.Const c) i a e mk mk' fl fl' after after' h h' =
       plain_one env k n (λ x j. absurd (grind (arith, i, j))) e mk mk' fl fl' after after' h.value h.flow h.after_is
       h'.value h'.flow h'.after_is
-  binding_one seen env s k n (res.Func c) i a e mk mk' fl fl' after after' h h' =
+  binding_one seen env s k n (meaning.Func c) i a e mk mk' fl fl' after after' h h' =
       plain_one env k n (λ x j. absurd (grind (arith, i, j))) e mk mk' fl fl' after after' h.value h.flow h.after_is
       h'.value h'.flow h'.after_is
-  binding_one seen env s k n (res.Class c) i a e mk mk' fl fl' after after' h h' =
+  binding_one seen env s k n (meaning.Class c) i a e mk mk' fl fl' after after' h h' =
       plain_one env k n (λ x j. absurd (grind (arith, i, j))) e mk mk' fl fl' after after' h.value h.flow h.after_is
       h'.value h'.flow h'.after_is
-  binding_one seen env s k n (res.Builtin c) i a e mk mk' fl fl' after after' h h' =
+  binding_one seen env s k n (meaning.Builtin c) i a e mk mk' fl fl' after after' h h' =
       plain_one env k n (λ x j. absurd (grind (arith, i, j))) e mk mk' fl fl' after after' h.value h.flow h.after_is
       h'.value h'.flow h'.after_is
-  binding_one seen env s k n res.None i a e mk mk' fl fl' after after' h h' =
+  binding_one seen env s k n meaning.None i a e mk mk' fl fl' after after' h h' =
       plain_one env k n (λ x j. absurd (grind (arith, i, j))) e mk mk' fl fl' after after' h.value h.flow h.after_is
       h'.value h'.flow h'.after_is
 
@@ -212,15 +212,15 @@ module _ (m : Module) (ctx : Context) (ds ds' : List Tree) where
 
   declaration_one : (seen : NamesBound) → SameSeen seen → (n : Name) (r : NameMeaning) → ctx.resolve n.text ≡ r → (t : Tree)
       → LawfulDeclaration m ctx ds seen n r t → LawfulDeclaration m ctx ds' seen n r t → SameName n
-  declaration_one seen s n (res.Local x) i t h h' y j =
+  declaration_one seen s n (meaning.Local x) i t h h' y j =
       let is : x ≡ y = local_inj (sym i ∙ j) in
       subst (λ z. declared_type ds z ≡ declared_type ds' z) is (declared_one (is_first seen n) x t
       (first_seen seen n x s i) h h')
-  declaration_one seen s n (res.Const c) i t h h' y j = absurd (grind (arith, i, j))
-  declaration_one seen s n (res.Func c) i t h h' y j = absurd (grind (arith, i, j))
-  declaration_one seen s n (res.Class c) i t h h' y j = absurd (grind (arith, i, j))
-  declaration_one seen s n (res.Builtin c) i t h h' y j = absurd (grind (arith, i, j))
-  declaration_one seen s n res.None i t h h' y j = absurd (grind (arith, i, j))
+  declaration_one seen s n (meaning.Const c) i t h h' y j = absurd (grind (arith, i, j))
+  declaration_one seen s n (meaning.Func c) i t h h' y j = absurd (grind (arith, i, j))
+  declaration_one seen s n (meaning.Class c) i t h h' y j = absurd (grind (arith, i, j))
+  declaration_one seen s n (meaning.Builtin c) i t h h' y j = absurd (grind (arith, i, j))
+  declaration_one seen s n meaning.None i t h h' y j = absurd (grind (arith, i, j))
 
   annotated_one : (seen : NamesBound) (env : Env) → SameSeen seen → SameWhere ds ds' env
       → (n : Name) (a : Ann) (e : Option Expr) (mk mk' : OptionLabels e) (fl fl' : FlowLabels) (after after' : Env)
@@ -249,7 +249,7 @@ module _ (m : Module) (ctx : Context) (ds ds' : List Tree) where
   from_one false x t s d d' = s refl
   from_one true x t s d d' = d ∙ sym d'
 
-  no_target_one : (head : Env) → SameWhere ds ds' head → (n : Name) → ((x : ℕ) → ctx.resolve n.text ≡ res.Local x → ⊥)
+  no_target_one : (head : Env) → SameWhere ds ds' head → (n : Name) → ((x : ℕ) → ctx.resolve n.text ≡ meaning.Local x → ⊥)
       → (fl fl' : FlowLabels) (inside inside' : Env) → (fl ≡ []) × (inside ≡ head) → (fl' ≡ []) × (inside' ≡ head)
       → TargetOne fl fl' inside inside' n
   no_target_one head k n r fl fl' inside inside' h h' = record {
@@ -264,7 +264,7 @@ module _ (m : Module) (ctx : Context) (ds ds' : List Tree) where
       → ctx.resolve n.text ≡ r → (item : Label) (fl fl' : FlowLabels) (inside inside' : Env)
       → LawfulTarget m ctx ds seen n r head item fl inside → LawfulTarget m ctx ds' seen n r head item fl' inside'
       → TargetOne fl fl' inside inside' n
-  target_one seen head s k n (res.Local x) i item fl fl' inside inside' h h' =
+  target_one seen head s k n (meaning.Local x) i item fl fl' inside inside' h h' =
       let q = from_one (is_first seen n) x item.type (first_seen seen n x s i) h.at_first h'.at_first in
       let f : fl ≡ fl' = into_one ctx.bases (clean item.type) (declared_type ds' x ∷ []) fl fl'
       (subst (λ t. FlowsInto ctx.bases (clean item.type) (t ∷ []) fl) q h.flow) h'.flow in
@@ -277,29 +277,29 @@ module _ (m : Module) (ctx : Context) (ds ds' : List Tree) where
         same = λ y j. let is : x ≡ y = local_inj (sym i ∙ j) in subst (λ z. declared_type ds z ≡ declared_type ds' z) is
             q;
       }
-  target_one seen head s k n (res.Const c) i item fl fl' inside inside' h h' =
+  target_one seen head s k n (meaning.Const c) i item fl fl' inside inside' h h' =
       no_target_one head k n (λ x j. absurd (grind (arith, i, j))) fl fl' inside inside' h h'
-  target_one seen head s k n (res.Func c) i item fl fl' inside inside' h h' =
+  target_one seen head s k n (meaning.Func c) i item fl fl' inside inside' h h' =
       no_target_one head k n (λ x j. absurd (grind (arith, i, j))) fl fl' inside inside' h h'
-  target_one seen head s k n (res.Class c) i item fl fl' inside inside' h h' =
+  target_one seen head s k n (meaning.Class c) i item fl fl' inside inside' h h' =
       no_target_one head k n (λ x j. absurd (grind (arith, i, j))) fl fl' inside inside' h h'
-  target_one seen head s k n (res.Builtin c) i item fl fl' inside inside' h h' =
+  target_one seen head s k n (meaning.Builtin c) i item fl fl' inside inside' h h' =
       no_target_one head k n (λ x j. absurd (grind (arith, i, j))) fl fl' inside inside' h h'
-  target_one seen head s k n res.None i item fl fl' inside inside' h h' =
+  target_one seen head s k n meaning.None i item fl fl' inside inside' h h' =
       no_target_one head k n (λ x j. absurd (grind (arith, i, j))) fl fl' inside inside' h h'
 
   -- names first bound where no run comes
   undeclared_name : (b : Test) (r : NameMeaning) (x : ℕ) → (b ≡ false → declared_type ds x ≡ declared_type ds' x)
-      → r ≡ res.Local x → UndeclaredName m ctx ds b r → UndeclaredName m ctx ds' b r
+      → r ≡ meaning.Local x → UndeclaredName m ctx ds b r → UndeclaredName m ctx ds' b r
       → declared_type ds x ≡ declared_type ds' x
   undeclared_name false r x s i h h' = s refl
-  undeclared_name true (res.Local y) x s i h h' = let is : y ≡ x = local_inj i in
+  undeclared_name true (meaning.Local y) x s i h h' = let is : y ≡ x = local_inj i in
       subst (λ z. declared_type ds z ≡ declared_type ds' z) is (h ∙ sym h')
-  undeclared_name true (res.Const c) x s i h h' = absurd (grind (arith, i))
-  undeclared_name true (res.Func c) x s i h h' = absurd (grind (arith, i))
-  undeclared_name true (res.Class c) x s i h h' = absurd (grind (arith, i))
-  undeclared_name true (res.Builtin c) x s i h h' = absurd (grind (arith, i))
-  undeclared_name true res.None x s i h h' = absurd (grind (arith, i))
+  undeclared_name true (meaning.Const c) x s i h h' = absurd (grind (arith, i))
+  undeclared_name true (meaning.Func c) x s i h h' = absurd (grind (arith, i))
+  undeclared_name true (meaning.Class c) x s i h h' = absurd (grind (arith, i))
+  undeclared_name true (meaning.Builtin c) x s i h h' = absurd (grind (arith, i))
+  undeclared_name true meaning.None x s i h h' = absurd (grind (arith, i))
 
   among_later : (word : List ℕ) (n : Name) (ns : List Name) (seen : NamesBound)
       → IsAmong word (n.text ∷ (texts ns ++ seen)) → IsAmong word (texts ns ++ (n.text ∷ seen))
@@ -444,20 +444,20 @@ module _ (m : Module) (ctx : Context) (ds ds' : List Tree) where
 
   -- two lawful labellings of a statement have the same labels and the same environment after it, and agree on the
   -- declared types that it leaves behind
-  pub record SameStmt {A : Type 0} (mk mk' : A) (out out' : Option Env) (broken : List Env) (after : NamesBound) : Type
+  pub record SameStmt {A : Type 0} (mk mk' : A) (out out' : Option Env) (exit_env : List Env) (after : NamesBound) : Type
       0 where
     pub labels : mk ≡ mk'
     pub outs : out ≡ out'
     pub kept : OutKept out
-    pub broken_kept : AllKept broken
+    pub exit_env_kept : AllKept exit_env
     pub seen : SameSeen after
 
-  pub record SameBranches {A : Type 0} (mk mk' : A) (last last' : Env) (broken ways : List Env)
+  pub record SameBranches {A : Type 0} (mk mk' : A) (last last' : Env) (exit_env ways : List Env)
       (after : NamesBound) : Type 0 where
     pub labels : mk ≡ mk'
     pub lasts : last ≡ last'
     pub kept : SameWhere ds ds' last
-    pub broken_kept : AllKept broken
+    pub exit_env_kept : AllKept exit_env
     pub ways_kept : AllKept ways
     pub seen : SameSeen after
 
@@ -507,8 +507,8 @@ module _ (m : Module) (ctx : Context) (ds ds' : List Tree) where
           outs =
               n.outs;
           kept = n.kept;
-          broken_kept = all_kept_both (breaks_in s s0) (breaks_in_suite rest r.rest)
-              f.broken_kept n.broken_kept;
+          exit_env_kept = all_kept_both (breaks_in s s0) (breaks_in_suite rest r.rest)
+              f.exit_env_kept n.exit_env_kept;
           seen = n.seen;
         }
     behind_one seen env s rest false s0 s0' r r' out out' first next h h' =
@@ -517,7 +517,7 @@ module _ (m : Module) (ctx : Context) (ds ds' : List Tree) where
           labels = λ i. record { first = f.labels i; behind = r };
           outs = h.2 ∙ sym h'.2;
           kept = subst OutKept (sym h.2) tt;
-          broken_kept = all_kept_both (breaks_in s s0) [] f.broken_kept tt;
+          exit_env_kept = all_kept_both (breaks_in s s0) [] f.exit_env_kept tt;
           seen = undeclared_one (texts (bound_by_stmt s) ++ seen) (bound_by rest) f.seen h.1 h'.1;
         }
 
@@ -534,7 +534,7 @@ module _ (m : Module) (ctx : Context) (ds ds' : List Tree) where
           outs = h.is
               ∙ ap Some q.afters ∙ sym h'.is;
           kept = subst OutKept (sym h.is) q.kept;
-          broken_kept = tt;
+          exit_env_kept = tt;
           seen =
               seen_more seen n s q.same;
         }
@@ -547,7 +547,7 @@ module _ (m : Module) (ctx : Context) (ds ds' : List Tree) where
           outs = h.is
               ∙ ap Some a ∙ sym h'.is;
           kept = subst OutKept (sym h.is) (subst (SameWhere ds ds') (sym h.assignment.1) k);
-          broken_kept = tt;
+          exit_env_kept = tt;
           seen = s;
         }
     assignment_one p seen env s k (to_index p' o j) e mk mk' out out' h h' =
@@ -559,7 +559,7 @@ module _ (m : Module) (ctx : Context) (ds ds' : List Tree) where
           outs = h.is
               ∙ ap Some a ∙ sym h'.is;
           kept = subst OutKept (sym h.is) (subst (SameWhere ds ds') (sym h.assignment.1) k);
-          broken_kept = tt;
+          exit_env_kept = tt;
           seen = s;
         }
 
@@ -579,7 +579,7 @@ module _ (m : Module) (ctx : Context) (ds ds' : List Tree) where
         outs = h ∙ sym h';
         kept =
             subst OutKept (sym h) k;
-        broken_kept = tt;
+        exit_env_kept = tt;
         seen = s;
       }
       stmt_one seen env s k (breaks p) mk mk' out out' h h' = record {
@@ -587,11 +587,11 @@ module _ (m : Module) (ctx : Context) (ds ds' : List Tree) where
         outs = h.1
             ∙ sym h'.1;
         kept = subst OutKept (sym h.1) tt;
-        broken_kept = (subst (SameWhere ds ds') (sym h.0) k, tt);
+        exit_env_kept = (subst (SameWhere ds ds') (sym h.0) k, tt);
         seen = s;
       }
       stmt_one seen env s k (continues p) mk mk' out out' h h' =
-          record { labels = refl; outs = h ∙ sym h'; kept = subst OutKept (sym h) tt; broken_kept = tt; seen = s }
+          record { labels = refl; outs = h ∙ sym h'; kept = subst OutKept (sym h) tt; exit_env_kept = tt; seen = s }
       stmt_one seen env s k (returns p e) mk mk' out out' h h' =
           let q = return_one returned env k e mk.value mk'.value mk.flows mk'.flows h.0 h'.0 in
           record {
@@ -599,7 +599,7 @@ module _ (m : Module) (ctx : Context) (ds ds' : List Tree) where
             outs = h.1 ∙ sym h'.1;
             kept =
                 subst OutKept (sym h.1) tt;
-            broken_kept = tt;
+            exit_env_kept = tt;
             seen = s;
           }
       stmt_one seen env s k (asserts p c e) mk mk' out out' h h' =
@@ -613,7 +613,7 @@ module _ (m : Module) (ctx : Context) (ds ds' : List Tree) where
             outs = h.after ∙ ap Some t.same
                 ∙ sym h'.after;
             kept = subst OutKept (sym h.after) t.kept;
-            broken_kept = tt;
+            exit_env_kept = tt;
             seen = s;
           }
       stmt_one seen env s k (annotated p n a e) mk mk' out out' h h' =
@@ -624,7 +624,7 @@ module _ (m : Module) (ctx : Context) (ds ds' : List Tree) where
             outs = h.is ∙ ap Some q.afters
                 ∙ sym h'.is;
             kept = subst OutKept (sym h.is) q.kept;
-            broken_kept = tt;
+            exit_env_kept = tt;
             seen = seen_more seen n s q.same;
           }
       stmt_one seen env s k (assigns p t e) mk mk' out out' h h' = assignment_one p seen env s k t e mk mk' out out' h
@@ -635,7 +635,7 @@ module _ (m : Module) (ctx : Context) (ds ds' : List Tree) where
             outs = h.1 ∙ sym h'.1;
             kept =
                 subst OutKept (sym h.1) k;
-            broken_kept = tt;
+            exit_env_kept = tt;
             seen = s;
           }
       stmt_one seen env s k (while_loop p c b) mk mk' out out' h h' =
@@ -650,7 +650,7 @@ module _ (m : Module) (ctx : Context) (ds ds' : List Tree) where
           let body = suite_one seen (truth_of c true mk.head) s t.kept b mk.body mk'.body mk.out mk'.out h.body
           (subst (λ x. LawfulSuite m ctx ds' returned seen x b mk'.body mk'.out) (sym inside) h'.body) in
           let j = all_joins_alike ctx.bases ds ds' (truth_of c false mk.head) (breaks_in_suite b mk.body) f.kept
-          body.broken_kept in
+          body.exit_env_kept in
           let ends : truth_of c false mk.head ≡ truth_of' c false mk'.head = f.same ∙ ap (truth_of' c false) q in
           record {
             labels = λ i. record { head = q i; condition = cond i; body = body.labels i; out = body.outs i };
@@ -658,7 +658,7 @@ module _ (m : Module) (ctx : Context) (ds ds' : List Tree) where
                 ∙ ap Some (j.same ∙ (λ i. join_envs_onto ctx.bases ds' (ends i) (breaks_in_suite b (body.labels i))))
                 ∙ sym h'.after;
             kept = subst OutKept (sym h.after) j.kept;
-            broken_kept = tt;
+            exit_env_kept = tt;
             seen = body.seen;
           }
       stmt_one seen env s k (for_loop p n e b) mk mk' out out' h h' =
@@ -673,7 +673,7 @@ module _ (m : Module) (ctx : Context) (ds ds' : List Tree) where
           let body = suite_one (n.text ∷ seen) h.inside (seen_more seen n s tg.same) tg.kept b mk.body mk'.body mk.out
           mk'.out h.body (subst (λ x. LawfulSuite m ctx ds' returned (n.text ∷ seen) x b mk'.body mk'.out)
           (sym tg.insides) h'.body) in
-          let j = all_joins_alike ctx.bases ds ds' mk.head (breaks_in_suite b mk.body) kh body.broken_kept in
+          let j = all_joins_alike ctx.bases ds ds' mk.head (breaks_in_suite b mk.body) kh body.exit_env_kept in
           record {
             labels = λ i. record {
               iterable = it.labels i;
@@ -688,7 +688,7 @@ module _ (m : Module) (ctx : Context) (ds ds' : List Tree) where
                 ∙ ap Some (j.same ∙ (λ i. join_envs_onto ctx.bases ds' (q i) (breaks_in_suite b (body.labels i))))
                 ∙ sym h'.after;
             kept = subst OutKept (sym h.after) j.kept;
-            broken_kept = tt;
+            exit_env_kept = tt;
             seen = λ word x among r. body.seen word x (among_later word n (bound_by b) seen among) r;
           }
       stmt_one seen env s k (conditional p bs o) mk mk' out out' h h' =
@@ -712,8 +712,8 @@ module _ (m : Module) (ctx : Context) (ds ds' : List Tree) where
                 ∙ (λ i. join_ways ctx.bases ds' (ways_in bs (br.labels i) ++ option_to_list (el.outs i)))
                 ∙ sym h'.after;
             kept = subst OutKept (sym h.after) w.1;
-            broken_kept = all_kept_both (breaks_in_branches bs mk.branches) (breaks_in_suite o mk.otherwise)
-                br.broken_kept el.broken_kept;
+            exit_env_kept = all_kept_both (breaks_in_branches bs mk.branches) (breaks_in_suite o mk.otherwise)
+                br.exit_env_kept el.exit_env_kept;
             seen = seen_both (bound_by_branches bs) (bound_by o) seen el.seen;
           }
 
@@ -726,7 +726,7 @@ module _ (m : Module) (ctx : Context) (ds ds' : List Tree) where
         outs = h ∙ sym h';
         kept =
             subst OutKept (sym h) k;
-        broken_kept = tt;
+        exit_env_kept = tt;
         seen = s;
       }
       suite_one seen env s k (more_stmts st rest) mk mk' out out' h h' =
@@ -738,7 +738,7 @@ module _ (m : Module) (ctx : Context) (ds ds' : List Tree) where
             labels = q.labels;
             outs = q.outs;
             kept = q.kept;
-            broken_kept = q.broken_kept;
+            exit_env_kept = q.exit_env_kept;
             seen =
                 seen_both (bound_by_stmt st) (bound_by rest) seen q.seen;
           }
@@ -753,7 +753,7 @@ module _ (m : Module) (ctx : Context) (ds ds' : List Tree) where
             labels = refl;
             lasts = h ∙ sym h';
             kept = subst (SameWhere ds ds') (sym h) k;
-            broken_kept = tt;
+            exit_env_kept = tt;
             ways_kept = tt;
             seen = s;
           }
@@ -776,8 +776,8 @@ module _ (m : Module) (ctx : Context) (ds ds' : List Tree) where
             };
             lasts = others.lasts;
             kept = others.kept;
-            broken_kept = all_kept_both (breaks_in_suite b mk.body) (breaks_in_branches rest mk.rest) body.broken_kept
-                others.broken_kept;
+            exit_env_kept = all_kept_both (breaks_in_suite b mk.body) (breaks_in_branches rest mk.rest) body.exit_env_kept
+                others.exit_env_kept;
             ways_kept = all_kept_both (option_to_list mk.out) (ways_in rest mk.rest) (option_kept mk.out body.kept)
                 others.ways_kept;
             seen = seen_both (bound_by b) (bound_by_branches rest) seen others.seen;

@@ -13,7 +13,7 @@ use Rattle.pc_tree.specs.Stopping.{has_none}
 use Rattle.pc_scope.specs.declared.resolution.Builtin.{Builtin}
 use Rattle.pc_scope.specs.declared.resolution.Builtin.TheVariants as builtin
 use Rattle.pc_scope.specs.declared.resolution.NameMeaning.{NameMeaning}
-use Rattle.pc_scope.specs.declared.resolution.NameMeaning.TheVariants as res
+use Rattle.pc_scope.specs.declared.resolution.NameMeaning.TheVariants as meaning
 use Rattle.pc_types.specs.Tree.{Tree, Any, Never, Int, Bool, Str, NoneType, Class, ListOf, DictOf, TupleOf}
 use Rattle.pc_types.specs.Below.{Bases}
 use Rattle.pc_types.specs.Shape.{members, nodes, node_limit}
@@ -255,13 +255,13 @@ constant_plain None = (refl, tt)
 constant_plain (Some t) = tt
 
 pub name_plain : (ctx : Context) (env : Env) (r : NameMeaning) → LabelPlain (name_label ctx env r)
-name_plain ctx env (res.Local x) = local_plain (current env x)
-name_plain ctx env (res.Const i) = constant_plain (slice_get ctx.constants i)
-name_plain ctx env (res.Func i) = in_both LabelPlain ctx.in_body (in_error E20) (in_error E03) (refl, tt) (refl, tt)
-name_plain ctx env (res.Class c) = in_both LabelPlain (nat_lt c ctx.known) (in_error E20) (in_error E03) (refl, tt)
+name_plain ctx env (meaning.Local x) = local_plain (current env x)
+name_plain ctx env (meaning.Const i) = constant_plain (slice_get ctx.constants i)
+name_plain ctx env (meaning.Func i) = in_both LabelPlain ctx.in_body (in_error E20) (in_error E03) (refl, tt) (refl, tt)
+name_plain ctx env (meaning.Class c) = in_both LabelPlain (nat_lt c ctx.known) (in_error E20) (in_error E03) (refl, tt)
     (refl, tt)
-name_plain ctx env (res.Builtin b) = (refl, tt)
-name_plain ctx env res.None = (refl, tt)
+name_plain ctx env (meaning.Builtin b) = (refl, tt)
+name_plain ctx env meaning.None = (refl, tt)
 
 -- ---- calls
 
@@ -355,20 +355,20 @@ builtin_plain g _ = called_value (in_error E20) (refl, tt)
 
 name_callee_plain : (ctx : Context) (env : Env) (g : GivenArguments) (r : NameMeaning)
     → CalleePlain (name_callee ctx env g r)
-name_callee_plain ctx env g (res.Func i) =
+name_callee_plain ctx env g (meaning.Func i) =
     in_both CalleePlain ctx.in_body (good_callee (function_offer g (slice_get ctx.functions i) ∷ []))
     (value_callee (in_error E03)) (one_offer (function_offer g (slice_get ctx.functions i))
     (function_plain g (slice_get ctx.functions i))) (called_value (in_error E03) (refl, tt))
-name_callee_plain ctx env g (res.Class c) =
+name_callee_plain ctx env g (meaning.Class c) =
     in_both CalleePlain (nat_lt c ctx.known) (good_callee (signature_offer g (class_signature ctx.classes c) ∷ []))
     (value_callee (in_error E03)) (one_offer (signature_offer g (class_signature ctx.classes c))
     (called_plain g (class_signature ctx.classes c))) (called_value (in_error E03) (refl, tt))
-name_callee_plain ctx env g (res.Builtin b) = builtin_plain g b
-name_callee_plain ctx env g (res.Local x) = called_value (name_label ctx env (res.Local x))
-    (name_plain ctx env (res.Local x))
-name_callee_plain ctx env g (res.Const i) = called_value (name_label ctx env (res.Const i))
-    (name_plain ctx env (res.Const i))
-name_callee_plain ctx env g res.None = called_value (name_label ctx env res.None) (name_plain ctx env res.None)
+name_callee_plain ctx env g (meaning.Builtin b) = builtin_plain g b
+name_callee_plain ctx env g (meaning.Local x) = called_value (name_label ctx env (meaning.Local x))
+    (name_plain ctx env (meaning.Local x))
+name_callee_plain ctx env g (meaning.Const i) = called_value (name_label ctx env (meaning.Const i))
+    (name_plain ctx env (meaning.Const i))
+name_callee_plain ctx env g meaning.None = called_value (name_label ctx env meaning.None) (name_plain ctx env meaning.None)
 
 method_callee_plain : (ctx : Context) (g : GivenArguments) (word : List ℕ) (t : Tree)
     → CalleePlain (method_callee ctx g word t)

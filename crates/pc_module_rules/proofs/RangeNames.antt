@@ -11,7 +11,7 @@ use Rattle.pc_scope.specs.Bindings.{texts}
 use Rattle.pc_scope.specs.declared.resolution.Builtin.{Builtin}
 use Rattle.pc_scope.specs.declared.resolution.Owner.{Owner}
 use Rattle.pc_scope.specs.declared.resolution.NameMeaning.{NameMeaning}
-use Rattle.pc_scope.specs.declared.resolution.NameMeaning.TheVariants as res
+use Rattle.pc_scope.specs.declared.resolution.NameMeaning.TheVariants as meaning
 use Rattle.pc_scope.specs.Reserved.{reserved_builtins, beside, builtin_of}
 use Rattle.pc_scope.specs.Resolution.{index_of, entry_texts, locals, bound_first, or_meaning, local_meaning}
 use Rattle.pc_scope.specs.Resolution.{builtin_meaning, resolve_in_module, resolve_among}
@@ -20,7 +20,7 @@ use Rattle.pc_rules.specs.Calls.{is_range}
 
 -- among reserved names only `range` means it
 abbrev only_range : List ℕ × Builtin → Test
-only_range e = if is_range (res.Builtin e.1) then bytes_eq e.0 (codes "range") else true
+only_range e = if is_range (meaning.Builtin e.1) then bytes_eq e.0 (codes "range") else true
 
 besides : (entries : List (List ℕ × Builtin)) (t : List ℕ) (r : NameMeaning) → list_all only_range entries ≡ true
     → bytes_eq (codes "range") t ≡ false → is_range r ≡ false
@@ -30,7 +30,7 @@ besides (e ∷ rest) t r h other none =
     let both = and_parts (only_range e) (list_all only_range rest) h in
     by_name both.0 (besides rest t r both.1 other none) (bytes_eq e.0 t) refl
   where
-    by_meaning : e.0 ≡ t → (x : Test) → is_range (res.Builtin e.1) ≡ x
+    by_meaning : e.0 ≡ t → (x : Test) → is_range (meaning.Builtin e.1) ≡ x
         → (if x then bytes_eq e.0 (codes "range") else true) ≡ true → x ≡ false
     by_meaning is true i only =
         let same : t ≡ codes "range" = sym is ∙ (bytes_eq-Decides e.0 (codes "range")).0 only in
@@ -40,35 +40,35 @@ besides (e ∷ rest) t r h other none =
     by_name : only_range e ≡ true → is_range (or_meaning (builtin_meaning (beside rest t)) r) ≡ false
         → (x : Test) → bytes_eq e.0 t ≡ x
         → is_range (or_meaning (builtin_meaning (if x then Some e.1 else beside rest t)) r) ≡ false
-    by_name only k true i = by_meaning ((bytes_eq-Decides e.0 t).0 i) (is_range (res.Builtin e.1)) refl only
+    by_name only k true i = by_meaning ((bytes_eq-Decides e.0 t).0 i) (is_range (meaning.Builtin e.1)) refl only
     by_name only k false i = k
 
 -- items bind no built-in
 bound_other : (k f c : ℕ) (items : List Item) (t : List ℕ)
-    → is_range (or_meaning (bound_first k f c items t) res.None) ≡ false
+    → is_range (or_meaning (bound_first k f c items t) meaning.None) ≡ false
 bound_other k f c [] t = refl
 bound_other k f c (constant_item p i ∷ rest) t = go (bytes_eq i.name.text t) (bound_other (suc k) f c rest t)
   where
-    go : (x : Test) → is_range (or_meaning (bound_first (suc k) f c rest t) res.None) ≡ false
-        → is_range (or_meaning (if x then Some (res.Const k) else bound_first (suc k) f c rest t) res.None) ≡ false
+    go : (x : Test) → is_range (or_meaning (bound_first (suc k) f c rest t) meaning.None) ≡ false
+        → is_range (or_meaning (if x then Some (meaning.Const k) else bound_first (suc k) f c rest t) meaning.None) ≡ false
     go true h = refl
     go false h = h
 bound_other k f c (def_item p i ∷ rest) t = go (bytes_eq i.name.text t) (bound_other k (suc f) c rest t)
   where
-    go : (x : Test) → is_range (or_meaning (bound_first k (suc f) c rest t) res.None) ≡ false
-        → is_range (or_meaning (if x then Some (res.Func f) else bound_first k (suc f) c rest t) res.None) ≡ false
+    go : (x : Test) → is_range (or_meaning (bound_first k (suc f) c rest t) meaning.None) ≡ false
+        → is_range (or_meaning (if x then Some (meaning.Func f) else bound_first k (suc f) c rest t) meaning.None) ≡ false
     go true h = refl
     go false h = h
 bound_other k f c (class_item p i ∷ rest) t = go (bytes_eq i.name.text t) (bound_other k f (suc c) rest t)
   where
-    go : (x : Test) → is_range (or_meaning (bound_first k f (suc c) rest t) res.None) ≡ false
-        → is_range (or_meaning (if x then Some (res.Class c) else bound_first k f (suc c) rest t) res.None) ≡ false
+    go : (x : Test) → is_range (or_meaning (bound_first k f (suc c) rest t) meaning.None) ≡ false
+        → is_range (or_meaning (if x then Some (meaning.Class c) else bound_first k f (suc c) rest t) meaning.None) ≡ false
     go true h = refl
     go false h = h
 
 module_other : (m : Module) (t : List ℕ) → bytes_eq (codes "range") t ≡ false → is_range (resolve_in_module m t) ≡ false
 unfolding builtin_of
-module_other m t other = besides reserved_builtins t (or_meaning (bound_first 0 0 0 m.items t) res.None) refl other
+module_other m t other = besides reserved_builtins t (or_meaning (bound_first 0 0 0 m.items t) meaning.None) refl other
     (bound_other 0 0 0 m.items t)
 
 module_range : (m : Module) → is_range (resolve_in_module m (codes "range")) ≡ true

@@ -27,9 +27,9 @@ use Rattle.pc_module_rules.specs.Computed.Statements.{DeclaredTypes, type_table}
 use Rattle.pc_module_rules.proofs.WalkedExpressions.{told}
 use Rattle.pc_module_rules.proofs.WalkedTables.{types_well_formed}
 
-module _ (keeps : Test) (setting : Surroundings) (declared : List Tree) (table : DeclaredTypes)
-    (kt : IsWellFormedEnv setting.context.bases table) (env : Env) (h : EnvFits setting declared table env) where
-  open setting use {whole as m, context as ctx, context_well_formed as ck}
+module _ (keeps : Test) (around : Surroundings) (declared : List Tree) (table : DeclaredTypes)
+    (kt : IsWellFormedEnv around.context.bases table) (env : Env) (h : EnvFits around declared table env) where
+  open around use {whole as m, context as ctx, context_well_formed as ck}
 
   abbrev at_env : Standing
   at_env = record { context = ctx; declared = type_table table; env = env; keeps = keeps }
@@ -50,7 +50,7 @@ module _ (keeps : Test) (setting : Surroundings) (declared : List Tree) (table :
   pub label_is : (want : Option Tree) → IsWellFormedIfAny ctx.bases want → (e : Expr) (labels : Labels e)
       → Lawful ctx declared env want e labels → label_in at_env want e ≡ whole_label e labels
   unfolding label_in
-  label_is want kw e labels l = (told setting declared table kt env h want kw e labels l).label
+  label_is want kw e labels l = (told around declared table kt env h want kw e labels l).label
 
   -- a call of `range`
   module _ (p : Place) (n : Name) (args : Exprs) (kws : Keywords) where

@@ -12,7 +12,7 @@ use Rattle.pc_tree.specs.Tree.{evaluates, while_loop, for_loop, conditional, no_
 use Rattle.pc_tree.specs.Tree.{more_branches, FuncDef, Module}
 use Rattle.pc_scope.specs.declared.resolution.Owner.{Owner}
 use Rattle.pc_scope.specs.declared.resolution.NameMeaning.{NameMeaning}
-use Rattle.pc_scope.specs.declared.resolution.NameMeaning.TheVariants as res
+use Rattle.pc_scope.specs.declared.resolution.NameMeaning.TheVariants as meaning
 use Rattle.pc_scope.specs.Resolution.{locals}
 use Rattle.pc_types.specs.Tree.{Tree, Any, Int, NoneType}
 use Rattle.pc_types.specs.Below.{Bases}
@@ -75,7 +75,7 @@ OutWellFormed bases (Some env) = IsWellFormedEnv bases env
 record WalkRight (bases : Bases) (w : Walk) : Type 0 where
   table : IsWellFormedEnv bases w.table
   env : OutWellFormed bases w.env
-  broken : OutWellFormed bases w.broken
+  exit_env : OutWellFormed bases w.exit_env
   found : AreRight bases w.found
 
 -- likewise of a name bound
@@ -89,7 +89,7 @@ record ForkRight (bases : Bases) (w : BranchesResult) : Type 0 where
   table : IsWellFormedEnv bases w.table
   last : IsWellFormedEnv bases w.last
   ways : OutWellFormed bases w.ways
-  broken : OutWellFormed bases w.broken
+  exit_env : OutWellFormed bases w.exit_env
   found : AreRight bases w.found
 
 -- a binding is right with the note of its name
@@ -103,10 +103,10 @@ noted_right bases true valued r p b h = record {
       (note_holds (AreRight bases) tt (λ q d t. (record { tested = tt; formed = tt }, tt)) valued b.table b.env r p);
 }
 
-settled_well_formed : (bases : Bases) (bound : Option Tree) (table : DeclaredTypes) (x : ℕ) (t : Tree) → IsWellFormed bases t
+by_names_well_formed : (bases : Bases) (bound : Option Tree) (table : DeclaredTypes) (x : ℕ) (t : Tree) → IsWellFormed bases t
     → IsWellFormedEnv bases table → IsWellFormedEnv bases (with_declared bound table x t)
-settled_well_formed bases (Some d) table x t h k = k
-settled_well_formed bases None table x t h k = assign_well_formed bases table x t h k
+by_names_well_formed bases (Some d) table x t h k = k
+by_names_well_formed bases None table x t h k = assign_well_formed bases table x t h k
 
 known_well_formed : (bases : Bases) (bound annotation : Option Tree) → IsWellFormedIfAny bases bound
     → IsWellFormedIfAny bases annotation → IsWellFormedIfAny bases (known_declared bound annotation)
@@ -160,13 +160,13 @@ module _ (context : BodyContext) (ck : ContextWellFormed context.context)
   -- ---- names that no run binds
 
   unreached_one : (table : DeclaredTypes) (r : NameMeaning) → Formed table → Formed (unreached_name context table r)
-  unreached_one table (res.Local x) kt = settled_well_formed ctx.bases (bound_type table x) table x Any
+  unreached_one table (meaning.Local x) kt = by_names_well_formed ctx.bases (bound_type table x) table x Any
       (any_well_formed ctx.bases) kt
-  unreached_one table (res.Const i) kt = kt
-  unreached_one table (res.Func i) kt = kt
-  unreached_one table (res.Class i) kt = kt
-  unreached_one table (res.Builtin b) kt = kt
-  unreached_one table res.None kt = kt
+  unreached_one table (meaning.Const i) kt = kt
+  unreached_one table (meaning.Func i) kt = kt
+  unreached_one table (meaning.Class i) kt = kt
+  unreached_one table (meaning.Builtin b) kt = kt
+  unreached_one table meaning.None kt = kt
 
   unreached_all : (table : DeclaredTypes) (ns : List Name) → Formed table → Formed (unreached_names context table ns)
   unreached_all table [] kt = kt
@@ -186,7 +186,7 @@ module _ (context : BodyContext) (ck : ContextWellFormed context.context)
       let flows = flows_of ctx.bases label (d ∷ []) in
       let kd = unwrap_well_formed ctx.bases want label.type kw km in
       record {
-        table = settled_well_formed ctx.bases (bound_type table x) table x d kd kt;
+        table = by_names_well_formed ctx.bases (bound_type table x) table x d kd kt;
         env = assignments_well_formed ctx.bases env x d label.type (only_code flows) kd km ke;
         found = right_then found (flows_at p flows) kf (right_flows ctx.bases ck.smaller p label (d ∷ []) km (kd, tt));
       }
@@ -209,7 +209,7 @@ module _ (context : BodyContext) (ck : ContextWellFormed context.context)
   value_right : (table : DeclaredTypes) (env : Env) (r : NameMeaning) (annotation : Option Tree) (e : Expr) (found : List Note)
       → Formed table → Formed env → IsWellFormedIfAny ctx.bases annotation → Right found
       → BoundRight ctx.bases (bind_value context table env r annotation e found)
-  value_right table env (res.Local x) annotation e found kt ke ka kf =
+  value_right table env (meaning.Local x) annotation e found kt ke ka kf =
       let want = known_declared (bound_type table x) annotation in
       let kw = known_well_formed ctx.bases (bound_type table x) annotation (bound_well_formed table x kt) ka in
       let here = standing_here context table env in
@@ -217,20 +217,20 @@ module _ (context : BodyContext) (ck : ContextWellFormed context.context)
       label_right table env x want (place_of e) (label_in here want e) (found ++ finds_in here want e) kt ke kw
       (label_well_formed here ks want kw e) (right_then found (finds_in here want e) kf
       (right_in here ks want kw e))
-  value_right table env (res.Const i) annotation e found kt ke ka kf = value_alone table env e found kt ke kf
-  value_right table env (res.Func i) annotation e found kt ke ka kf = value_alone table env e found kt ke kf
-  value_right table env (res.Class i) annotation e found kt ke ka kf = value_alone table env e found kt ke kf
-  value_right table env (res.Builtin b) annotation e found kt ke ka kf = value_alone table env e found kt ke kf
-  value_right table env res.None annotation e found kt ke ka kf = value_alone table env e found kt ke kf
+  value_right table env (meaning.Const i) annotation e found kt ke ka kf = value_alone table env e found kt ke kf
+  value_right table env (meaning.Func i) annotation e found kt ke ka kf = value_alone table env e found kt ke kf
+  value_right table env (meaning.Class i) annotation e found kt ke ka kf = value_alone table env e found kt ke kf
+  value_right table env (meaning.Builtin b) annotation e found kt ke ka kf = value_alone table env e found kt ke kf
+  value_right table env meaning.None annotation e found kt ke ka kf = value_alone table env e found kt ke kf
 
   alone_well_formed : (table : DeclaredTypes) (r : NameMeaning) (t : Tree) → Formed table → IsWellFormed ctx.bases t
       → Formed (declared_alone context table r t)
-  alone_well_formed table (res.Local x) t kt h = settled_well_formed ctx.bases (bound_type table x) table x t h kt
-  alone_well_formed table (res.Const i) t kt h = kt
-  alone_well_formed table (res.Func i) t kt h = kt
-  alone_well_formed table (res.Class i) t kt h = kt
-  alone_well_formed table (res.Builtin b) t kt h = kt
-  alone_well_formed table res.None t kt h = kt
+  alone_well_formed table (meaning.Local x) t kt h = by_names_well_formed ctx.bases (bound_type table x) table x t h kt
+  alone_well_formed table (meaning.Const i) t kt h = kt
+  alone_well_formed table (meaning.Func i) t kt h = kt
+  alone_well_formed table (meaning.Class i) t kt h = kt
+  alone_well_formed table (meaning.Builtin b) t kt h = kt
+  alone_well_formed table meaning.None t kt h = kt
 
   annotation_right : (bound : Option Tree) (n : Name) (a : Ann) → Right (annotation_finds context bound n a)
   annotation_right (Some d) n a = (record { tested = refl; formed = tt }, tt)
@@ -390,88 +390,88 @@ module _ (context : BodyContext) (ck : ContextWellFormed context.context)
       → Formed table
       → Formed head → IsWellFormed ctx.bases t → Right found → BoundRight ctx.bases
       (bind_item context table head r p t found)
-  target_right table head (res.Local x) p t found kt kh k kf = label_right table head x (bound_type table x) p (clean t)
+  target_right table head (meaning.Local x) p t found kt kh k kf = label_right table head x (bound_type table x) p (clean t)
       found kt kh (bound_well_formed table x kt) k kf
-  target_right table head (res.Const i) p t found kt kh k kf = item_alone table head found kt kh kf
-  target_right table head (res.Func i) p t found kt kh k kf = item_alone table head found kt kh kf
-  target_right table head (res.Class i) p t found kt kh k kf = item_alone table head found kt kh kf
-  target_right table head (res.Builtin b) p t found kt kh k kf = item_alone table head found kt kh kf
-  target_right table head res.None p t found kt kh k kf = item_alone table head found kt kh kf
+  target_right table head (meaning.Const i) p t found kt kh k kf = item_alone table head found kt kh kf
+  target_right table head (meaning.Func i) p t found kt kh k kf = item_alone table head found kt kh kf
+  target_right table head (meaning.Class i) p t found kt kh k kf = item_alone table head found kt kh kf
+  target_right table head (meaning.Builtin b) p t found kt kh k kf = item_alone table head found kt kh kf
+  target_right table head meaning.None p t found kt kh k kf = item_alone table head found kt kh kf
 
   -- ---- statements
 
-  behind_right : (broken : Option Env) (b : BindingResult) → OutWellFormed ctx.bases broken → BoundRight ctx.bases b
-      → WalkRight ctx.bases (record { table = b.table; env = Some b.env; broken = broken; found = b.found })
-  behind_right broken b kb h = record { table = h.table; env = h.env; broken = kb; found = h.found }
+  behind_right : (exit_env : Option Env) (b : BindingResult) → OutWellFormed ctx.bases exit_env → BoundRight ctx.bases b
+      → WalkRight ctx.bases (record { table = b.table; env = Some b.env; exit_env = exit_env; found = b.found })
+  behind_right exit_env b kb h = record { table = h.table; env = h.env; exit_env = kb; found = h.found }
 
   mutual
-    step_right : (table : DeclaredTypes) (env broken : Option Env) (found : List Note) → Formed table
-        → OutWellFormed ctx.bases env → OutWellFormed ctx.bases broken → Right found → (s : Stmt)
-        → WalkRight ctx.bases (step context table env broken found s)
-    step_right table None broken found kt ke kb kf s = record {
+    step_right : (table : DeclaredTypes) (env exit_env : Option Env) (found : List Note) → Formed table
+        → OutWellFormed ctx.bases env → OutWellFormed ctx.bases exit_env → Right found → (s : Stmt)
+        → WalkRight ctx.bases (step context table env exit_env found s)
+    step_right table None exit_env found kt ke kb kf s = record {
       table = unreached_all table (bound_by_stmt s) kt;
       env =
           tt;
-      broken = kb;
+      exit_env = kb;
       found = kf;
     }
-    step_right table (Some env) broken found kt ke kb kf (pass p) =
-        record { table = kt; env = ke; broken = kb; found = kf }
-    step_right table (Some env) broken found kt ke kb kf (breaks p) =
-        record { table = kt; env = tt; broken = way_onto table broken env kt kb ke; found = kf }
-    step_right table (Some env) broken found kt ke kb kf (continues p) =
-        record { table = kt; env = tt; broken = kb; found = kf }
-    step_right table (Some env) broken found kt ke kb kf (returns p e) =
+    step_right table (Some env) exit_env found kt ke kb kf (pass p) =
+        record { table = kt; env = ke; exit_env = kb; found = kf }
+    step_right table (Some env) exit_env found kt ke kb kf (breaks p) =
+        record { table = kt; env = tt; exit_env = way_onto table exit_env env kt kb ke; found = kf }
+    step_right table (Some env) exit_env found kt ke kb kf (continues p) =
+        record { table = kt; env = tt; exit_env = kb; found = kf }
+    step_right table (Some env) exit_env found kt ke kb kf (returns p e) =
         record {
           table = kt;
           env = tt;
-          broken = kb;
+          exit_env = kb;
           found = right_then found
               (return_finds context (standing_here context table env) p e) kf (return_right table env kt ke p e);
         }
-    step_right table (Some env) broken found kt ke kb kf (asserts p c e) =
+    step_right table (Some env) exit_env found kt ke kb kf (asserts p c e) =
         let here = standing_here context table env in
         let out = narrowed_at context table false c env in
         record {
           table = kt;
           env = narrowed_well_formed table true c env kt ke;
-          broken = kb;
+          exit_env = kb;
           found = right_then (found ++ finds_in here None c) (option_finds context (standing_here context table out) None e)
               (right_then found (finds_in here None c) kf (right_in here (stands table env kt ke) None tt c))
               (option_right table out kt (narrowed_well_formed table false c env kt ke) e);
         }
-    step_right table (Some env) broken found kt ke kb kf (annotated p n a e) =
-        behind_right broken (bind_annotated context table env n a e found) kb
+    step_right table (Some env) exit_env found kt ke kb kf (annotated p n a e) =
+        behind_right exit_env (bind_annotated context table env n a e found) kb
         (annotated_right table env n a e found kt ke kf)
-    step_right table (Some env) broken found kt ke kb kf (assigns p t e) =
-        behind_right broken (assign_target context table env t e found) kb (assigned_right table env t e found kt ke kf)
-    step_right table (Some env) broken found kt ke kb kf (evaluates p e) =
+    step_right table (Some env) exit_env found kt ke kb kf (assigns p t e) =
+        behind_right exit_env (assign_target context table env t e found) kb (assigned_right table env t e found kt ke kf)
+    step_right table (Some env) exit_env found kt ke kb kf (evaluates p e) =
         record {
           table = kt;
           env = ke;
-          broken = kb;
+          exit_env = kb;
           found = right_then found (finds_in (standing_here context table env) None e) kf
               (right_in (standing_here context table env) (stands table env kt ke) None tt e);
         }
-    step_right table (Some env) broken found kt ke kb kf (while_loop p c b) =
+    step_right table (Some env) exit_env found kt ke kb kf (while_loop p c b) =
         let head = head_at context table (bound_by b) env in
         let kh = head_well_formed table (bound_by b) env kt ke in
         let xs = finds_in (standing_here context table head) None c in
         let start : Walk = record {
           table = table;
           env = Some (narrowed_at context table true c head);
-          broken =
+          exit_env =
               Some (narrowed_at context table false c head);
           found = found ++ xs;
         } in
         let body = suite_right start (record {
           table = kt;
           env = narrowed_well_formed table true c head kt kh;
-          broken = narrowed_well_formed table false c head kt kh;
+          exit_env = narrowed_well_formed table false c head kt kh;
           found = right_then found xs kf (right_in (standing_here context table head) (stands table head kt kh) None tt c);
         }) b in
-        record { table = body.table; env = body.broken; broken = kb; found = body.found }
-    step_right table (Some env) broken found kt ke kb kf (for_loop p n e b) =
+        record { table = body.table; env = body.exit_env; exit_env = kb; found = body.found }
+    step_right table (Some env) exit_env found kt ke kb kf (for_loop p n e b) =
         let here = standing_here context table env in
         let head = head_at context table (n ∷ bound_by b) env in
         let kh = head_well_formed table (n ∷ bound_by b) env kt ke in
@@ -489,42 +489,42 @@ module _ (context : BodyContext) (ck : ContextWellFormed context.context)
         let body = suite_right (inside_for context head start) (record {
           table = tg.table;
           env = tg.env;
-          broken = kh;
+          exit_env = kh;
           found = tg.found;
         }) b in
-        record { table = body.table; env = body.broken; broken = kb; found = body.found }
-    step_right table (Some env) broken found kt ke kb kf (conditional p bs o) =
+        record { table = body.table; env = body.exit_env; exit_env = kb; found = body.found }
+    step_right table (Some env) exit_env found kt ke kb kf (conditional p bs o) =
         let start : BranchesResult = record {
           table = table;
           last = env;
           ways = None;
-          broken = broken;
+          exit_env = exit_env;
           found =
               found;
         } in
-        let fork = walk_branches context start bs in
-        let br = branches_right start (record { table = kt; last = ke; ways = tt; broken = kb; found = kf }) bs in
+        let if_state = walk_branches context start bs in
+        let br = branches_right start (record { table = kt; last = ke; ways = tt; exit_env = kb; found = kf }) bs in
         let mid : Walk = record {
-          table = fork.table;
-          env = Some fork.last;
-          broken = fork.broken;
+          table = if_state.table;
+          env = Some if_state.last;
+          exit_env = if_state.exit_env;
           found =
-              fork.found;
+              if_state.found;
         } in
         let last = walk_suite context mid o in
-        let el = suite_right mid (record { table = br.table; env = br.last; broken = br.broken; found = br.found }) o in
+        let el = suite_right mid (record { table = br.table; env = br.last; exit_env = br.exit_env; found = br.found }) o in
         record {
           table = el.table;
-          env = one_way last.table fork.ways last.env el.table br.ways el.env;
-          broken =
-              el.broken;
+          env = one_way last.table if_state.ways last.env el.table br.ways el.env;
+          exit_env =
+              el.exit_env;
           found = el.found;
         }
 
     suite_right : (w : Walk) → WalkRight ctx.bases w → (b : Stmts) → WalkRight ctx.bases (walk_suite context w b)
     suite_right w h no_stmts = h
-    suite_right w h (more_stmts s rest) = suite_right (step context w.table w.env w.broken w.found s)
-        (step_right w.table w.env w.broken w.found h.table h.env h.broken h.found s) rest
+    suite_right w h (more_stmts s rest) = suite_right (step context w.table w.env w.exit_env w.found s)
+        (step_right w.table w.env w.exit_env w.found h.table h.env h.exit_env h.found s) rest
 
     branches_right : (w : BranchesResult) → ForkRight ctx.bases w → (bs : Branches)
         → ForkRight ctx.bases (walk_branches context w bs)
@@ -534,15 +534,15 @@ module _ (context : BodyContext) (ck : ContextWellFormed context.context)
         let start : Walk = record {
           table = w.table;
           env = Some (narrowed_at context w.table true c w.last);
-          broken =
-              w.broken;
+          exit_env =
+              w.exit_env;
           found = w.found ++ xs;
         } in
         let u = walk_suite context start b in
         let body = suite_right start (record {
           table = h.table;
           env = narrowed_well_formed w.table true c w.last h.table h.last;
-          broken = h.broken;
+          exit_env = h.exit_env;
           found = right_then w.found xs h.found (right_in (standing_here context w.table w.last)
               (stands w.table w.last h.table h.last) None tt c);
         }) b in
@@ -551,14 +551,14 @@ module _ (context : BodyContext) (ck : ContextWellFormed context.context)
           last = narrowed_at context w.table false c w.last;
           ways =
               with_way ctx.bases u.table w.ways u.env;
-          broken = u.broken;
+          exit_env = u.exit_env;
           found = u.found;
         } in
         branches_right next (record {
           table = body.table;
           last = narrowed_well_formed w.table false c w.last h.table h.last;
           ways = one_way u.table w.ways u.env body.table h.ways body.env;
-          broken = body.broken;
+          exit_env = body.exit_env;
           found = body.found;
         }) rest
 
@@ -580,12 +580,12 @@ local_entered bases None table env x t h kt ke = (
 
 name_entered : (bases : Bases) (table : DeclaredTypes) (env : Env) (r : NameMeaning) (t : Tree) → IsWellFormed bases t
     → IsWellFormedEnv bases table → IsWellFormedEnv bases env → EntryFormed bases (enter_name table env r t)
-name_entered bases table env (res.Local x) t h kt ke = local_entered bases (bound_type table x) table env x t h kt ke
-name_entered bases table env (res.Const i) t h kt ke = (kt, ke)
-name_entered bases table env (res.Func i) t h kt ke = (kt, ke)
-name_entered bases table env (res.Class i) t h kt ke = (kt, ke)
-name_entered bases table env (res.Builtin b) t h kt ke = (kt, ke)
-name_entered bases table env res.None t h kt ke = (kt, ke)
+name_entered bases table env (meaning.Local x) t h kt ke = local_entered bases (bound_type table x) table env x t h kt ke
+name_entered bases table env (meaning.Const i) t h kt ke = (kt, ke)
+name_entered bases table env (meaning.Func i) t h kt ke = (kt, ke)
+name_entered bases table env (meaning.Class i) t h kt ke = (kt, ke)
+name_entered bases table env (meaning.Builtin b) t h kt ke = (kt, ke)
+name_entered bases table env meaning.None t h kt ke = (kt, ke)
 
 all_entered : (bases : Bases) (resolve : List ℕ → NameMeaning) (table : DeclaredTypes) (env : Env) (ps : List TypedParameter)
     → ParametersWellFormed bases ps → IsWellFormedEnv bases table → IsWellFormedEnv bases env
@@ -613,9 +613,9 @@ right_function m constants kc owner f found kf =
     (entry_parameters m owner f) in
     let ks = all_entered (bases_of m) context.context.resolve (none_assigned (length names))
     (none_assigned (length names)) (entry_parameters m owner f) (entries_well_formed m owner f) none none in
-    let first : Walk = record { table = start.0; env = Some start.1; broken = None; found = found } in
+    let first : Walk = record { table = start.0; env = Some start.1; exit_env = None; found = found } in
     let body = walk_suite context first f.body in
     let kb = suite_right context (bodies_well_formed m constants names kc) (returned_well_formed m f) first
-    (record { table = ks.0; env = ks.1; broken = tt; found = kf }) f.body in
+    (record { table = ks.0; env = ks.1; exit_env = tt; found = kf }) f.body in
     right_append (bases_of m) body.found (end_finds (bases_of m) (return_type m f) f.name.place body.env) kb.found
     (end_right (bases_of m) (return_type m f) f.name.place body.env)

@@ -16,7 +16,7 @@ use Rattle.pc_tree.specs.Tree.{while_loop, for_loop, conditional, no_stmts, more
 use Rattle.pc_tree.specs.Tree.{Module}
 use Rattle.pc_tree.specs.Tree as tree
 use Rattle.pc_scope.specs.declared.resolution.NameMeaning.{NameMeaning}
-use Rattle.pc_scope.specs.declared.resolution.NameMeaning.TheVariants as res
+use Rattle.pc_scope.specs.declared.resolution.NameMeaning.TheVariants as meaning
 use Rattle.pc_scope.specs.Bindings.{texts}
 use Rattle.pc_scope.specs.Reach.{completes}
 use Rattle.pc_scope.specs.Resolution.{resolve_in_module}
@@ -140,23 +140,23 @@ module _ (m : Module) (ctx : Context) (declared : List Tree) (f : Finding) (s : 
   bound_value : (env : Env) (seen : NamesBound) (n : Name) (r : NameMeaning) (a : Option Tree) (e : Expr) (labels : Labels e)
       (flows : FlowLabels) (after : Env) → LawfulBinding m ctx declared env seen n r a e labels flows after
       → IsLabelled env e labels
-  bound_value env seen n (res.Local x) a e labels flows after law = record { want = _; law = law.value }
-  bound_value env seen n (res.Const x) a e labels flows after law = record { want = _; law = law.value }
-  bound_value env seen n (res.Func x) a e labels flows after law = record { want = _; law = law.value }
-  bound_value env seen n (res.Class x) a e labels flows after law = record { want = _; law = law.value }
-  bound_value env seen n (res.Builtin x) a e labels flows after law = record { want = _; law = law.value }
-  bound_value env seen n res.None a e labels flows after law = record { want = _; law = law.value }
+  bound_value env seen n (meaning.Local x) a e labels flows after law = record { want = _; law = law.value }
+  bound_value env seen n (meaning.Const x) a e labels flows after law = record { want = _; law = law.value }
+  bound_value env seen n (meaning.Func x) a e labels flows after law = record { want = _; law = law.value }
+  bound_value env seen n (meaning.Class x) a e labels flows after law = record { want = _; law = law.value }
+  bound_value env seen n (meaning.Builtin x) a e labels flows after law = record { want = _; law = law.value }
+  bound_value env seen n meaning.None a e labels flows after law = record { want = _; law = law.value }
 
   bound_flow : (env : Env) (seen : NamesBound) (n : Name) (r : NameMeaning) (a : Option Tree) (e : Expr) (labels : Labels e)
       (flows : FlowLabels) (after : Env) (p : Place) → LawfulBinding m ctx declared env seen n r a e labels flows after
       → IsFlowAt p flows f → ⊥
-  bound_flow env seen n (res.Local x) a e labels flows after p law h = no_flow (whole_label e labels)
+  bound_flow env seen n (meaning.Local x) a e labels flows after p law h = no_flow (whole_label e labels)
       (declared_type declared x ∷ []) flows p law.flow h
-  bound_flow env seen n (res.Const x) a e labels flows after p law h = no_flows flows p f law.flow h
-  bound_flow env seen n (res.Func x) a e labels flows after p law h = no_flows flows p f law.flow h
-  bound_flow env seen n (res.Class x) a e labels flows after p law h = no_flows flows p f law.flow h
-  bound_flow env seen n (res.Builtin x) a e labels flows after p law h = no_flows flows p f law.flow h
-  bound_flow env seen n res.None a e labels flows after p law h = no_flows flows p f law.flow h
+  bound_flow env seen n (meaning.Const x) a e labels flows after p law h = no_flows flows p f law.flow h
+  bound_flow env seen n (meaning.Func x) a e labels flows after p law h = no_flows flows p f law.flow h
+  bound_flow env seen n (meaning.Class x) a e labels flows after p law h = no_flows flows p f law.flow h
+  bound_flow env seen n (meaning.Builtin x) a e labels flows after p law h = no_flows flows p f law.flow h
+  bound_flow env seen n meaning.None a e labels flows after p law h = no_flows flows p f law.flow h
 
   -- targets of assignments
   target_said : (env : Env) (t : Target) (target : TargetLabels t) (e : Expr) (labels : Labels e) (flows : FlowLabels)
@@ -224,13 +224,13 @@ module _ (m : Module) (ctx : Context) (declared : List Tree) (f : Finding) (s : 
 
   -- an annotated name
   annotation_said : (r : NameMeaning) (first : Test) (n : Name) (a : Ann) → AnnotationFinds m ctx r first n a f → ⊥
-  annotation_said (res.Local x) false n a h = other_code n.place _ f refl s h
-  annotation_said (res.Local x) true n a h = no_annotation m ctx.bases f s a h
-  annotation_said (res.Const x) first n a h = no_annotation m ctx.bases f s a h
-  annotation_said (res.Func x) first n a h = no_annotation m ctx.bases f s a h
-  annotation_said (res.Class x) first n a h = no_annotation m ctx.bases f s a h
-  annotation_said (res.Builtin x) first n a h = no_annotation m ctx.bases f s a h
-  annotation_said res.None first n a h = no_annotation m ctx.bases f s a h
+  annotation_said (meaning.Local x) false n a h = other_code n.place _ f refl s h
+  annotation_said (meaning.Local x) true n a h = no_annotation m ctx.bases f s a h
+  annotation_said (meaning.Const x) first n a h = no_annotation m ctx.bases f s a h
+  annotation_said (meaning.Func x) first n a h = no_annotation m ctx.bases f s a h
+  annotation_said (meaning.Class x) first n a h = no_annotation m ctx.bases f s a h
+  annotation_said (meaning.Builtin x) first n a h = no_annotation m ctx.bases f s a h
+  annotation_said meaning.None first n a h = no_annotation m ctx.bases f s a h
 
   annotated_said : (env : Env) (seen : NamesBound) (p : Place) (n : Name) (a : Ann) (e : Option Expr)
       (labels : OptionLabels e) (flows : FlowLabels) (after : Env) → LawfulAnnotated m ctx declared env seen n a e
@@ -316,13 +316,13 @@ module _ (m : Module) (ctx : Context) (declared : List Tree) (f : Finding) (s : 
 
   for_flow : (seen : NamesBound) (n : Name) (r : NameMeaning) (head : Env) (item : Label) (flows : FlowLabels) (inside : Env)
       (p : Place) → LawfulTarget m ctx declared seen n r head item flows inside → IsFlowAt p flows f → ⊥
-  for_flow seen n (res.Local x) head item flows inside p law h =
+  for_flow seen n (meaning.Local x) head item flows inside p law h =
       no_flow (clean item.type) (declared_type declared x ∷ []) flows p law.flow h
-  for_flow seen n (res.Const x) head item flows inside p law h = no_flows flows p f law.0 h
-  for_flow seen n (res.Func x) head item flows inside p law h = no_flows flows p f law.0 h
-  for_flow seen n (res.Class x) head item flows inside p law h = no_flows flows p f law.0 h
-  for_flow seen n (res.Builtin x) head item flows inside p law h = no_flows flows p f law.0 h
-  for_flow seen n res.None head item flows inside p law h = no_flows flows p f law.0 h
+  for_flow seen n (meaning.Const x) head item flows inside p law h = no_flows flows p f law.0 h
+  for_flow seen n (meaning.Func x) head item flows inside p law h = no_flows flows p f law.0 h
+  for_flow seen n (meaning.Class x) head item flows inside p law h = no_flows flows p f law.0 h
+  for_flow seen n (meaning.Builtin x) head item flows inside p law h = no_flows flows p f law.0 h
+  for_flow seen n meaning.None head item flows inside p law h = no_flows flows p f law.0 h
 
   module _ (returned : Tree) where
     returned_said : (env : Env) (p : Place) (e : Option Expr) (labels : OptionLabels e) (flows : FlowLabels)

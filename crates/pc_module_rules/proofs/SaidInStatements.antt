@@ -9,7 +9,7 @@ use Rattle.pc_tree.specs.Tree.{Stmt, Stmts, Branches, pass, breaks, continues, r
 use Rattle.pc_tree.specs.Tree.{evaluates, while_loop, for_loop, conditional, no_stmts, more_stmts, no_branches}
 use Rattle.pc_tree.specs.Tree.{more_branches, Module}
 use Rattle.pc_scope.specs.declared.resolution.NameMeaning.{NameMeaning}
-use Rattle.pc_scope.specs.declared.resolution.NameMeaning.TheVariants as res
+use Rattle.pc_scope.specs.declared.resolution.NameMeaning.TheVariants as meaning
 use Rattle.pc_scope.specs.Bindings.{texts}
 use Rattle.pc_scope.specs.Reach.{completes}
 use Rattle.pc_scope.specs.Expressions.{is_instance_test, first_or_all, parts_in, parts_in_all, parts_in_first}
@@ -45,12 +45,12 @@ module _ (m : Module) (ctx : Context) (declared : List Tree) (part : Expr) (f : 
   bound_found : (env : Env) (seen : NamesBound) (n : Name) (r : NameMeaning) (a : Option Tree) (e : Expr) (labels : Labels e)
       (flows : FlowLabels) (after : Env) → LawfulBinding m ctx declared env seen n r a e labels flows after → e ≡ expr
       → Finds e labels f
-  bound_found env seen n (res.Local x) a e labels flows after law is = is_found env _ e labels law.value is
-  bound_found env seen n (res.Const x) a e labels flows after law is = is_found env _ e labels law.value is
-  bound_found env seen n (res.Func x) a e labels flows after law is = is_found env _ e labels law.value is
-  bound_found env seen n (res.Class x) a e labels flows after law is = is_found env _ e labels law.value is
-  bound_found env seen n (res.Builtin x) a e labels flows after law is = is_found env _ e labels law.value is
-  bound_found env seen n res.None a e labels flows after law is = is_found env _ e labels law.value is
+  bound_found env seen n (meaning.Local x) a e labels flows after law is = is_found env _ e labels law.value is
+  bound_found env seen n (meaning.Const x) a e labels flows after law is = is_found env _ e labels law.value is
+  bound_found env seen n (meaning.Func x) a e labels flows after law is = is_found env _ e labels law.value is
+  bound_found env seen n (meaning.Class x) a e labels flows after law is = is_found env _ e labels law.value is
+  bound_found env seen n (meaning.Builtin x) a e labels flows after law is = is_found env _ e labels law.value is
+  bound_found env seen n meaning.None a e labels flows after law is = is_found env _ e labels law.value is
 
   store_found : (env : Env) (t : Target) (target : TargetLabels t) (e : Expr) (labels : Labels e) (flows : FlowLabels)
       → LawfulStore m ctx declared env t target e labels flows → IsPart expr (e ∷ target_exprs t) → Finds e labels f
@@ -99,12 +99,12 @@ module _ (m : Module) (ctx : Context) (declared : List Tree) (part : Expr) (f : 
   ]
     where
       go : (r : NameMeaning) → is_range r ≡ true → IsEarlyHere ctx r → ⊥
-      go (res.Builtin b) e h = h
-      go (res.Local x) e h = h
-      go (res.Const x) e h = grind (arith, e)
-      go (res.Func x) e h = grind (arith, e)
-      go (res.Class x) e h = grind (arith, e)
-      go res.None e h = h
+      go (meaning.Builtin b) e h = h
+      go (meaning.Local x) e h = h
+      go (meaning.Const x) e h = grind (arith, e)
+      go (meaning.Func x) e h = grind (arith, e)
+      go (meaning.Class x) e h = grind (arith, e)
+      go meaning.None e h = h
 
   range_found : (env : Env) (p : Place) (n : Name) (args : Exprs) (kws : Keywords)
       (labels : Labels (call p (name n) args kws)) → is_range (ctx.resolve n.text) ≡ true

@@ -41,11 +41,11 @@ use Rattle.pc_module_rules.proofs.KeptWalks.{standing}
 use Rattle.pc_module_rules.proofs.ReadExpressions.{found_is, label_is, range_read}
 use Rattle.pc_module_rules.proofs.ToldFlows.{tell_codes, tell_flows, tell_arguments, tell_keywords, tell_expression}
 
-module _ (code : Code) (own : is_of_scopes code ≡ false) (keeps : Test) (setting : Surroundings) (returned : Tree)
-    (kr : IsWellFormed setting.context.bases returned) (declared : List Tree) (table : DeclaredTypes)
-    (kt : IsWellFormedEnv setting.context.bases table) (env : Env)
-    (h : EnvFits setting declared table env) where
-  open setting use {whole as m, context as ctx, context_well_formed as ck}
+module _ (code : Code) (own : is_of_scopes code ≡ false) (keeps : Test) (around : Surroundings) (returned : Tree)
+    (kr : IsWellFormed around.context.bases returned) (declared : List Tree) (table : DeclaredTypes)
+    (kt : IsWellFormedEnv around.context.bases table) (env : Env)
+    (h : EnvFits around declared table env) where
+  open around use {whole as m, context as ctx, context_well_formed as ck}
 
   abbrev context : BodyContext
   context = standing m ctx returned keeps
@@ -57,16 +57,16 @@ module _ (code : Code) (own : is_of_scopes code ≡ false) (keeps : Test) (setti
 
   label_read : (want : Option Tree) → IsWellFormedIfAny ctx.bases want → (e : Expr) (labels : Labels e)
       → Lawful ctx declared env want e labels → label_in at_env want e ≡ whole_label e labels
-  label_read want kw e labels l = label_is keeps setting declared table kt env h want kw e labels l
+  label_read want kw e labels l = label_is keeps around declared table kt env h want kw e labels l
 
   type_formed : (want : Option Tree) → IsWellFormedIfAny ctx.bases want → (e : Expr) (labels : Labels e)
       → Lawful ctx declared env want e labels → IsWellFormed ctx.bases (type_of e labels)
-  type_formed want kw e labels l = (told setting declared table kt env h want kw e labels l).well_formed
+  type_formed want kw e labels l = (told around declared table kt env h want kw e labels l).well_formed
 
   pub tell_in : (want : Option Tree) → IsWellFormedIfAny ctx.bases want → (e : Expr) (labels : Labels e)
       → Lawful ctx declared env want e labels → Tells code (finds_in at_env want e) (coded_in code e labels)
   tell_in want kw e labels l = subst (λ xs. Tells code xs (coded_in code e labels))
-      (sym (found_is keeps setting declared table kt env h want kw e labels l))
+      (sym (found_is keeps around declared table kt env h want kw e labels l))
       (tell_expression code own keeps e labels)
 
   -- its flows into several types
@@ -78,7 +78,7 @@ module _ (code : Code) (own : is_of_scopes code ≡ false) (keeps : Test) (setti
   tell_flowing want e labels ts flows kw l ks fl =
       let is : flows_of ctx.bases (label_in at_env want e) ts ≡ flows = ap (λ x. flows_of ctx.bases x ts)
       (label_read want kw e labels l)
-      ∙ flows_told setting (whole_label e labels) ts flows (type_formed want kw e labels l) ks fl in
+      ∙ flows_told around (whole_label e labels) ts flows (type_formed want kw e labels l) ks fl in
       subst (λ fs. Tells code (flows_at (place_of e) fs) (coded_at code (place_of e) flows)) (sym is)
       (tell_flows code own (place_of e) flows)
 
@@ -107,7 +107,7 @@ module _ (code : Code) (own : is_of_scopes code ≡ false) (keeps : Test) (setti
         → Tells code (range_finds at_env p (name n) args kws) (coded_in code range labels)
     unfolding arguments_find keywords_find
     tell_range labels l =
-        let read = range_read keeps setting declared table kt env h p n args kws labels l in
+        let read = range_read keeps around declared table kt env h p n args kws labels l in
         let seat = positional_seat offers in
         let named = named_seat offers in
         let is_test = is_instance_test (name n) args kws in
@@ -213,6 +213,6 @@ module _ (code : Code) (own : is_of_scopes code ≡ false) (keeps : Test) (setti
       → LawfulReturn m ctx declared returned env e labels flows → Tells code (return_finds context at_env p e)
       (coded_in_value code p e labels flows)
   tell_return p None labels flows l =
-      let is = flows_told setting (clean NoneType) (returned ∷ []) flows (none_well_formed ctx.bases) (kr, tt) l in
+      let is = flows_told around (clean NoneType) (returned ∷ []) flows (none_well_formed ctx.bases) (kr, tt) l in
       subst (λ fs. Tells code (flows_at p fs) (coded_at code p flows)) (sym is) (tell_flows code own p flows)
   tell_return p (Some e) labels flows l = tell_both (Some returned) e labels (returned ∷ []) flows kr l.0 (kr, tt) l.1

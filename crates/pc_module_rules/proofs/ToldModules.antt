@@ -265,7 +265,7 @@ module _ (code : Code) (own : is_of_scopes code ≡ false) (keeps : Test) (m : M
         (coded_in_suite code f.body labels.body)
     function_tells owner f labels l found =
         let names = locals owner f in
-        let setting : Surroundings = record {
+        let around : Surroundings = record {
           whole = m;
           context = body_context m all names;
           context_well_formed =
@@ -276,14 +276,14 @@ module _ (code : Code) (own : is_of_scopes code ≡ false) (keeps : Test) (m : M
         let ds = labels.declared in
         let none = none_assigned (length names) in
         let entries = entry_parameters m owner f in
-        let start = enter_parameters setting.context.resolve none none entries in
-        let env = entry_env setting.context.resolve [] entries none in
-        let e = all_entered setting ds [] none none (none_fits setting ds) (none_assigned_fits setting ds l.each_local)
+        let start = enter_parameters around.context.resolve none none entries in
+        let env = entry_env around.context.resolve [] entries none in
+        let e = all_entered around ds [] none none (none_fits around ds) (none_assigned_fits around ds l.each_local)
         entries (entries_well_formed m owner f) l.entry in
-        let w : Walk = record { table = start.0; env = Some start.1; broken = None; found = found } in
-        let body = walk_suite (standing m setting.context (return_type m f) keeps) w f.body in
+        let w : Walk = record { table = start.0; env = Some start.1; exit_env = None; found = found } in
+        let body = walk_suite (standing m around.context (return_type m f) keeps) w f.body in
         let at_end = end_finds bases (return_type m f) f.name.place body.env in
-        let told = suite_tells code own keeps setting (return_type m f) (returned_well_formed m f) ds
+        let told = suite_tells code own keeps around (return_type m f) (returned_well_formed m f) ds
         (names_entered [] entries) f.body
         w env (ap Some e.env_is) e.fits e.env_fits tt labels.body labels.out l.body in
         subst (λ flows. Grows code found (body.found ++ at_end) flows)

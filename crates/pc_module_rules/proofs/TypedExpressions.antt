@@ -41,12 +41,12 @@ use Rattle.pc_module_rules.proofs.ReadExpressions.{found_is, label_is, range_rea
 
 -- in these surroundings a name means `range` exactly where it is this name
 abbrev pub KnowsRange : Surroundings → Type 0
-KnowsRange setting = (n : Name) → is_range (setting.context.resolve n.text) ≡ is_named (codes "range") (name n)
+KnowsRange around = (n : Name) → is_range (around.context.resolve n.text) ≡ is_named (codes "range") (name n)
 
-module _ (every : Test) (setting : Surroundings) (knows : KnowsRange setting) (returned : Tree)
-    (kr : IsWellFormed setting.context.bases returned) (declared : List Tree) (table : DeclaredTypes)
-    (kt : IsWellFormedEnv setting.context.bases table) (env : Env) (h : EnvFits setting declared table env) where
-  open setting use {whole as m, context as ctx, context_well_formed as ck}
+module _ (every : Test) (around : Surroundings) (knows : KnowsRange around) (returned : Tree)
+    (kr : IsWellFormed around.context.bases returned) (declared : List Tree) (table : DeclaredTypes)
+    (kt : IsWellFormedEnv around.context.bases table) (env : Env) (h : EnvFits around declared table env) where
+  open around use {whole as m, context as ctx, context_well_formed as ck}
 
   abbrev context : BodyContext
   context = standing m ctx returned true
@@ -59,7 +59,7 @@ module _ (every : Test) (setting : Surroundings) (knows : KnowsRange setting) (r
   pub show_read : (want : Option Tree) → IsWellFormedIfAny ctx.bases want → (e : Expr) (labels : Labels e)
       → Lawful ctx declared env want e labels → Shows every (finds_in at_env want e) (types_in every e labels)
   show_read want kw e labels l = subst (λ (xs : List Note). Shows every xs (types_in every e labels))
-      (sym (found_is true setting declared table kt env h want kw e labels l)) (show_expression e labels)
+      (sym (found_is true around declared table kt env h want kw e labels l)) (show_expression e labels)
 
   -- ---- iterables of `for` loops
 
@@ -75,7 +75,7 @@ module _ (every : Test) (setting : Surroundings) (knows : KnowsRange setting) (r
         → Shows every (range_finds at_env p (name n) args kws) (types_of_arguments every range labels)
     unfolding arguments_find keywords_find
     show_range labels l =
-        let read = range_read true setting declared table kt env h p n args kws labels l in
+        let read = range_read true around declared table kt env h p n args kws labels l in
         let seat = positional_seat offers in
         let named = named_seat offers in
         let is_test = is_instance_test (name n) args kws in
@@ -136,21 +136,21 @@ module _ (every : Test) (setting : Surroundings) (knows : KnowsRange setting) (r
       → Shows every (store_finds context at_env t e) (types_in_target every t target ++ types_in every e labels)
   show_store (to_name n) target e labels flows l = absurd l
   show_store (to_attribute p o field) target e labels flows l =
-      let v = told setting declared table kt env h None tt o target.object l.object in
+      let v = told around declared table kt env h None tt o target.object l.object in
       let os = attribute_offers m ctx declared field.text (type_of o target.object) in
       let read = attribute_stores context field.text (label_in at_env None o).type in
       let is : read ≡ os = ap (λ (x : Label). attribute_stores context field.text x.type)
-      (label_is true setting declared table kt env h None tt o target.object l.object) in
+      (label_is true around declared table kt env h None tt o target.object l.object) in
       show_both (finds_in at_env None o) (stored_finds context at_env read p e) (types_in every o target.object)
       (types_in every e labels) (show_read None tt o target.object l.object)
       (show_stored read os is p e labels (only_well_formed ctx.bases os (stored_types os)
       (fields_stored ctx.bases ctx.classes ck.classes field.text (type_of o target.object) v.well_formed)) l.value)
   show_store (to_index p o i) target e labels flows l =
-      let v = told setting declared table kt env h None tt o target.object l.object in
+      let v = told around declared table kt env h None tt o target.object l.object in
       let os = index_offers m ctx declared (type_of o target.object) in
       let read = index_stores context (label_in at_env None o).type in
       let is : read ≡ os = ap (λ (x : Label). index_stores context x.type)
-      (label_is true setting declared table kt env h None tt o target.object l.object) in
+      (label_is true around declared table kt env h None tt o target.object l.object) in
       let xs = finds_in at_env None o in
       let ys = finds_in at_env None i in
       let fs = flows_of ctx.bases (label_in at_env None i) (store_index_types read) in

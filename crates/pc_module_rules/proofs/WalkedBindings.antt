@@ -8,7 +8,7 @@ use Rattle.pc_tree.specs.Code.{finding}
 use Rattle.pc_tree.specs.Depth.{place_of}
 use Rattle.pc_tree.specs.Tree.{Name, Expr, Ann}
 use Rattle.pc_scope.specs.declared.resolution.NameMeaning.{NameMeaning}
-use Rattle.pc_scope.specs.declared.resolution.NameMeaning.TheVariants as res
+use Rattle.pc_scope.specs.declared.resolution.NameMeaning.TheVariants as meaning
 use Rattle.pc_scope.specs.Resolution.{is_one_of}
 use Rattle.pc_types.specs.Tree.{Tree, Any}
 use Rattle.pc_types.specs.WellFormed.{IsWellFormed}
@@ -50,19 +50,19 @@ nothing_flows : (flows : FlowLabels) (p : Place) (P : Finding → Type 0) → fl
     ⊎ IsFlowAt p flows f → P f
 nothing_flows flows p P e f h = elim h [ inl a ↦ a | inr b ↦ absurd (no_flows flows p f e b) ]
 
-module _ (setting : Surroundings) (returned : Tree) (declared : List Tree) where
-  open setting use {whole as m, context as ctx, context_well_formed as ck}
+module _ (around : Surroundings) (returned : Tree) (declared : List Tree) where
+  open around use {whole as m, context as ctx, context_well_formed as ck}
 
   abbrev context : BodyContext
-  context = body_context_in setting returned
+  context = body_context_in around returned
 
   -- a name bound has come to what is said: to this environment, with this found
   pub record BoundSays (seen : NamesBound) (n : Name) (table : DeclaredTypes) (found : List Note) (b : BindingResult)
       (after : Env) (Says : Finding → Type 0) : Type 0 where
-    pub fits : TableFits setting declared (n.text ∷ seen) b.table
-    pub grows : (env : Env) → EnvFits setting declared table env → EnvFits setting declared b.table env
+    pub fits : TableFits around declared (n.text ∷ seen) b.table
+    pub grows : (env : Env) → EnvFits around declared table env → EnvFits around declared b.table env
     pub env_is : b.env ≡ after
-    pub env_fits : EnvFits setting declared b.table after
+    pub env_fits : EnvFits around declared b.table after
     pub found_is : Adds found b.found Says
 
   says_same : {P Q : Finding → Type 0} (seen : NamesBound) (n : Name) (table : DeclaredTypes) (found : List Note)
@@ -90,8 +90,8 @@ module _ (setting : Surroundings) (returned : Tree) (declared : List Tree) where
 
   -- ---- a local bound
 
-  module _ (seen : NamesBound) (n : Name) (table : DeclaredTypes) (h : TableFits setting declared seen table) where
-    module _ (x : ℕ) (i : ctx.resolve n.text ≡ res.Local x) where
+  module _ (seen : NamesBound) (n : Name) (table : DeclaredTypes) (h : TableFits around declared seen table) where
+    module _ (x : ℕ) (i : ctx.resolve n.text ≡ meaning.Local x) where
       bound_here : is_one_of n.text seen ≡ true → bound_type table x ≡ Some (declared_type declared x)
       bound_here e = h.bound n.text x e i
 
@@ -99,7 +99,7 @@ module _ (setting : Surroundings) (returned : Tree) (declared : List Tree) where
       unbound_here e = h.unbound n.text x e i
 
       -- bound to what has a label
-      label_says : (env : Env) → EnvFits setting declared table env → (want : Option Tree) (p : Place) (label : Label)
+      label_says : (env : Env) → EnvFits around declared table env → (want : Option Tree) (p : Place) (label : Label)
           (flows : FlowLabels) (after : Env) (found : List Note)
           → unwrap_or want label.type ≡ declared_type declared x → IsWellFormedIfAny ctx.bases want
           → IsWellFormed ctx.bases label.type
@@ -109,8 +109,8 @@ module _ (setting : Surroundings) (returned : Tree) (declared : List Tree) where
       label_says env f want p label flows after found is kw km flow after_is =
           let d = unwrap_or want label.type in
           let kd : IsWellFormed ctx.bases d = unwrap_well_formed ctx.bases want label.type kw km in
-          let nf = name_fits setting declared seen n.text x i table h d (λ e. sym is) kd in
-          let q : flows_of ctx.bases label (d ∷ []) ≡ flows = flows_told setting label (d ∷ []) flows km (kd, tt)
+          let nf = name_fits around declared seen n.text x i table h d (λ e. sym is) kd in
+          let q : flows_of ctx.bases label (d ∷ []) ≡ flows = flows_told around label (d ∷ []) flows km (kd, tt)
           (subst (λ t. FlowsInto ctx.bases label (t ∷ []) flows) (sym is) flow) in
           let b = bind_label context table env x want p label found in
           let env_is : b.env ≡ after = (λ j. assign env x (assigned_type (is j) label.type (only_code (q j))))
@@ -123,21 +123,21 @@ module _ (setting : Surroundings) (returned : Tree) (declared : List Tree) where
             fits = nf.fits;
             grows = nf.grows;
             env_is = env_is;
-            env_fits = subst (EnvFits setting declared b.table) env_is (record {
+            env_fits = subst (EnvFits around declared b.table) env_is (record {
               same = assign_kept declared (type_table b.table) env x u (nf.grows env f).same same;
               well_formed = assign_well_formed ctx.bases env x u (assigned_well_formed ctx.bases d label.type
                   (only_code (flows_of ctx.bases label (d ∷ []))) kd km) f.well_formed;
             });
             found_is = adds_list found (flows_at p (flows_of ctx.bases label (d ∷ [])))
-                (flows_found setting p label (d ∷ []) flows q);
+                (flows_found around p label (d ∷ []) flows q);
           }
 
       -- bound to a value
-      value_says : (env : Env) → EnvFits setting declared table env → (a a' : Option Tree)
+      value_says : (env : Env) → EnvFits around declared table env → (a a' : Option Tree)
           → (is_first seen n ≡ true → a ≡ a') → IsWellFormedIfAny ctx.bases a'
           → (e : Expr) (labels : Labels e) (flows : FlowLabels) (after : Env) (found : List Note)
-          → LawfulBinding m ctx declared env seen n (res.Local x) a e labels flows after
-          → BoundSays seen n table found (bind_value context table env (res.Local x) a' e found) after
+          → LawfulBinding m ctx declared env seen n (meaning.Local x) a e labels flows after
+          → BoundSays seen n table found (bind_value context table env (meaning.Local x) a' e found) after
           (λ f. Finds e labels f ⊎ IsFlowAt (place_of e) flows f)
       value_says env f a a' s ka e labels flows after found l =
           let o = bound_type table x in
@@ -147,7 +147,7 @@ module _ (setting : Surroundings) (returned : Tree) (declared : List Tree) where
           l.at_first in
           let kw : IsWellFormedIfAny ctx.bases want = known_well_formed ctx.bases o a'
           (current_well_formed ctx.bases table x h.well_formed) ka in
-          let v = told setting declared table h.well_formed env f want kw e labels
+          let v = told around declared table h.well_formed env f want kw e labels
           (subst (λ y. Lawful ctx declared env y e labels) w l.value) in
           let is : unwrap_or want (type_of e labels) ≡ declared_type declared x =
           ap (λ y. unwrap_or y (type_of e labels)) (sym w) ∙ type_is m ctx declared x o (is_one_of n.text seen)
@@ -161,7 +161,7 @@ module _ (setting : Surroundings) (returned : Tree) (declared : List Tree) where
           l.flow l.after_is))
 
     -- a name that means no local binds nothing
-    plain_says : ((x : ℕ) → ctx.resolve n.text ≡ res.Local x → ⊥) → (env : Env) → EnvFits setting declared table env
+    plain_says : ((x : ℕ) → ctx.resolve n.text ≡ meaning.Local x → ⊥) → (env : Env) → EnvFits around declared table env
         → (e : Expr) (labels : Labels e) (flows : FlowLabels) (after : Env) (found : List Note)
         → Lawful ctx declared env None e labels → flows ≡ [] → after ≡ env
         → BoundSays seen n table found (record {
@@ -172,71 +172,71 @@ module _ (setting : Surroundings) (returned : Tree) (declared : List Tree) where
         }) after (λ f. Finds e labels f
         ⊎ IsFlowAt (place_of e) flows f)
     plain_says other env f e labels flows after found l none is =
-        let v = told setting declared table h.well_formed env f None tt e labels l in
-        let nf = other_fits setting declared seen n.text table other h in
+        let v = told around declared table h.well_formed env f None tt e labels l in
+        let nf = other_fits around declared seen n.text table other h in
         record {
           fits = nf.fits;
           grows = nf.grows;
           env_is = sym is;
-          env_fits = subst (EnvFits setting declared table) (sym is) f;
+          env_fits = subst (EnvFits around declared table) (sym is) f;
           found_is = adds_same found (found ++ finds_in (standing_here context table env) None e) (λ g y. inl y)
               (nothing_flows flows (place_of e) (Finds e labels) none)
               (adds_list found (finds_in (standing_here context table env) None e) v.found);
         }
 
-    pub binding_says : (r : NameMeaning) → ctx.resolve n.text ≡ r → (env : Env) → EnvFits setting declared table env
+    pub binding_says : (r : NameMeaning) → ctx.resolve n.text ≡ r → (env : Env) → EnvFits around declared table env
         → (a a' : Option Tree) → (is_first seen n ≡ true → a ≡ a') → IsWellFormedIfAny ctx.bases a'
         → (e : Expr) (labels : Labels e) (flows : FlowLabels) (after : Env) (found : List Note)
         → LawfulBinding m ctx declared env seen n r a e labels flows after
         → BoundSays seen n table found (bind_value context table env r a' e found) after (λ f. Finds e labels f
         ⊎ IsFlowAt (place_of e) flows f)
-    binding_says (res.Local x) i env f a a' s ka e labels flows after found l = value_says x i env f a a' s ka e labels
+    binding_says (meaning.Local x) i env f a a' s ka e labels flows after found l = value_says x i env f a a' s ka e labels
         flows after found l
-    binding_says (res.Const c) i env f a a' s ka e labels flows after found l =
+    binding_says (meaning.Const c) i env f a a' s ka e labels flows after found l =
         plain_says (λ x j. absurd (grind (arith, i, j))) env f e labels flows after found l.value l.flow l.after_is
-    binding_says (res.Func c) i env f a a' s ka e labels flows after found l =
+    binding_says (meaning.Func c) i env f a a' s ka e labels flows after found l =
         plain_says (λ x j. absurd (grind (arith, i, j))) env f e labels flows after found l.value l.flow l.after_is
-    binding_says (res.Class c) i env f a a' s ka e labels flows after found l =
+    binding_says (meaning.Class c) i env f a a' s ka e labels flows after found l =
         plain_says (λ x j. absurd (grind (arith, i, j))) env f e labels flows after found l.value l.flow l.after_is
-    binding_says (res.Builtin c) i env f a a' s ka e labels flows after found l =
+    binding_says (meaning.Builtin c) i env f a a' s ka e labels flows after found l =
         plain_says (λ x j. absurd (grind (arith, i, j))) env f e labels flows after found l.value l.flow l.after_is
-    binding_says res.None i env f a a' s ka e labels flows after found l =
+    binding_says meaning.None i env f a a' s ka e labels flows after found l =
         plain_says (λ x j. absurd (grind (arith, i, j))) env f e labels flows after found l.value l.flow l.after_is
 
     -- ---- the target of a `for`
 
-    idle_says : ((x : ℕ) → ctx.resolve n.text ≡ res.Local x → ⊥) → (head : Env) → EnvFits setting declared table head
+    idle_says : ((x : ℕ) → ctx.resolve n.text ≡ meaning.Local x → ⊥) → (head : Env) → EnvFits around declared table head
         → (p : Place) (flows : FlowLabels) (inside : Env) (found : List Note) → flows ≡ [] → inside ≡ head
         → BoundSays seen n table found (record { table = table; env = head; found = found }) inside (IsFlowAt p flows)
     idle_says other head f p flows inside found none is =
-        let nf = other_fits setting declared seen n.text table other h in
+        let nf = other_fits around declared seen n.text table other h in
         record {
           fits = nf.fits;
           grows = nf.grows;
           env_is = sym is;
-          env_fits = subst (EnvFits setting declared table) (sym is) f;
+          env_fits = subst (EnvFits around declared table) (sym is) f;
           found_is = adds_same found found (λ g y. absurd y) (λ g y. no_flows flows p g none y) (adds_nothing found);
         }
 
-    pub target_says : (r : NameMeaning) → ctx.resolve n.text ≡ r → (head : Env) → EnvFits setting declared table head
+    pub target_says : (r : NameMeaning) → ctx.resolve n.text ≡ r → (head : Env) → EnvFits around declared table head
         → (item : Label) → IsWellFormed ctx.bases item.type → (p : Place) (flows : FlowLabels) (inside : Env)
         (found : List Note)
         → LawfulTarget m ctx declared seen n r head item flows inside
         → BoundSays seen n table found (bind_item context table head r p item.type found) inside (IsFlowAt p flows)
-    target_says (res.Local x) i head f item k p flows inside found l =
+    target_says (meaning.Local x) i head f item k p flows inside found l =
         label_says x i head f (bound_type table x) p (clean item.type) flows inside found
         (declared_is m ctx declared x (bound_type table x) (is_one_of n.text seen) (bound_here x i) (unbound_here x i)
         item.type (is_one_of n.text seen) refl l.at_first) (current_well_formed ctx.bases table x h.well_formed) k
         l.flow l.inside_is
-    target_says (res.Const c) i head f item k p flows inside found l = idle_says (λ x j. absurd (grind (arith, i, j)))
+    target_says (meaning.Const c) i head f item k p flows inside found l = idle_says (λ x j. absurd (grind (arith, i, j)))
         head f p flows inside found l.0 l.1
-    target_says (res.Func c) i head f item k p flows inside found l = idle_says (λ x j. absurd (grind (arith, i, j)))
+    target_says (meaning.Func c) i head f item k p flows inside found l = idle_says (λ x j. absurd (grind (arith, i, j)))
         head f p flows inside found l.0 l.1
-    target_says (res.Class c) i head f item k p flows inside found l = idle_says (λ x j. absurd (grind (arith, i, j)))
+    target_says (meaning.Class c) i head f item k p flows inside found l = idle_says (λ x j. absurd (grind (arith, i, j)))
         head f p flows inside found l.0 l.1
-    target_says (res.Builtin c) i head f item k p flows inside found l = idle_says (λ x j. absurd (grind (arith, i, j)))
+    target_says (meaning.Builtin c) i head f item k p flows inside found l = idle_says (λ x j. absurd (grind (arith, i, j)))
         head f p flows inside found l.0 l.1
-    target_says res.None i head f item k p flows inside found l = idle_says (λ x j. absurd (grind (arith, i, j))) head f
+    target_says meaning.None i head f item k p flows inside found l = idle_says (λ x j. absurd (grind (arith, i, j))) head f
         p flows inside found l.0 l.1
 
     -- ---- annotations
@@ -244,43 +244,43 @@ module _ (setting : Surroundings) (returned : Tree) (declared : List Tree) where
     annotation_says : (r : NameMeaning) → ctx.resolve n.text ≡ r → (a : Ann)
         → Lists (annotation_finds context (bound_name context table r) n a)
         (AnnotationFinds m ctx r (is_first seen n) n a)
-    annotation_says (res.Local x) i a = go (is_one_of n.text seen) refl
+    annotation_says (meaning.Local x) i a = go (is_one_of n.text seen) refl
       where
         go : (b : Test) → is_one_of n.text seen ≡ b → Lists (annotation_finds context (bound_type table x) n a)
-            (AnnotationFinds m ctx (res.Local x) (not b) n a)
-        go true e = subst (λ o. Lists (annotation_finds context o n a) (AnnotationFinds m ctx (res.Local x) false n a))
+            (AnnotationFinds m ctx (meaning.Local x) (not b) n a)
+        go true e = subst (λ o. Lists (annotation_finds context o n a) (AnnotationFinds m ctx (meaning.Local x) false n a))
             (sym (bound_here x i e)) (lists_one (finding n.place E24) refl)
-        go false e = subst (λ o. Lists (annotation_finds context o n a) (AnnotationFinds m ctx (res.Local x) true n a))
+        go false e = subst (λ o. Lists (annotation_finds context o n a) (AnnotationFinds m ctx (meaning.Local x) true n a))
             (sym (unbound_here x i e)) (lists_annotation m ctx.bases a)
-    annotation_says (res.Const c) i a = lists_annotation m ctx.bases a
-    annotation_says (res.Func c) i a = lists_annotation m ctx.bases a
-    annotation_says (res.Class c) i a = lists_annotation m ctx.bases a
-    annotation_says (res.Builtin c) i a = lists_annotation m ctx.bases a
-    annotation_says res.None i a = lists_annotation m ctx.bases a
+    annotation_says (meaning.Const c) i a = lists_annotation m ctx.bases a
+    annotation_says (meaning.Func c) i a = lists_annotation m ctx.bases a
+    annotation_says (meaning.Class c) i a = lists_annotation m ctx.bases a
+    annotation_says (meaning.Builtin c) i a = lists_annotation m ctx.bases a
+    annotation_says meaning.None i a = lists_annotation m ctx.bases a
 
     declaration_fits : (r : NameMeaning) → ctx.resolve n.text ≡ r → (t : Tree) → IsWellFormed ctx.bases t
-        → LawfulDeclaration m ctx declared seen n r t → NameFits setting declared seen n.text table
+        → LawfulDeclaration m ctx declared seen n r t → NameFits around declared seen n.text table
         (declared_alone context table r t)
-    declaration_fits (res.Local x) i t k l = name_fits setting declared seen n.text x i table h t
+    declaration_fits (meaning.Local x) i t k l = name_fits around declared seen n.text x i table h t
         (λ e. first_type (is_one_of n.text seen) e l) k
       where
         first_type : (b : Test) → b ≡ false → DeclaredAt m ctx declared (not b) x (Some t) t → declared_type declared x
             ≡ t
         first_type true e d = absurd (grind (arith, e))
         first_type false e d = d
-    declaration_fits (res.Const c) i t k l = other_fits setting declared seen n.text table
+    declaration_fits (meaning.Const c) i t k l = other_fits around declared seen n.text table
         (λ x j. absurd (grind (arith, i, j))) h
-    declaration_fits (res.Func c) i t k l = other_fits setting declared seen n.text table
+    declaration_fits (meaning.Func c) i t k l = other_fits around declared seen n.text table
         (λ x j. absurd (grind (arith, i, j))) h
-    declaration_fits (res.Class c) i t k l = other_fits setting declared seen n.text table
+    declaration_fits (meaning.Class c) i t k l = other_fits around declared seen n.text table
         (λ x j. absurd (grind (arith, i, j))) h
-    declaration_fits (res.Builtin c) i t k l = other_fits setting declared seen n.text table
+    declaration_fits (meaning.Builtin c) i t k l = other_fits around declared seen n.text table
         (λ x j. absurd (grind (arith, i, j))) h
-    declaration_fits res.None i t k l = other_fits setting declared seen n.text table
+    declaration_fits meaning.None i t k l = other_fits around declared seen n.text table
         (λ x j. absurd (grind (arith, i, j))) h
 
     -- a name annotated, with a value or alone
-    pub annotated_says : (env : Env) → EnvFits setting declared table env → (p : Place) (a : Ann) (e : Option Expr)
+    pub annotated_says : (env : Env) → EnvFits around declared table env → (p : Place) (a : Ann) (e : Option Expr)
         (labels : OptionLabels e) (flows : FlowLabels) (after : Env) (found : List Note)
         → LawfulAnnotated m ctx declared env seen n a e labels flows after
         → BoundSays seen n table found (bind_annotated context table env n a e found) after
@@ -294,7 +294,7 @@ module _ (setting : Surroundings) (returned : Tree) (declared : List Tree) where
           fits = nf.fits;
           grows = nf.grows;
           env_is = sym l.2;
-          env_fits = subst (EnvFits setting declared (declared_alone context table (ctx.resolve n.text)
+          env_fits = subst (EnvFits around declared (declared_alone context table (ctx.resolve n.text)
               (read_ann m ctx.bases a))) (sym l.2) (nf.grows env f);
           found_is = adds_same found (found ++ finds) (λ g y. inl y)
               (λ g y. elim y [

@@ -22,21 +22,21 @@ pub joined_both : (bases : Bases) (ds : List Tree) (env : Env) (a b : List Env)
 joined_both bases ds env [] b = refl
 joined_both bases ds env (e ∷ a) b = joined_both bases ds (join_env bases ds env e) a b
 
-pub breaks_both : (bases : Bases) (ds : List Tree) (broken : Option Env) (a b : List Env)
-    → with_breaks bases ds (with_breaks bases ds broken a) b ≡ with_breaks bases ds broken (a ++ b)
+pub breaks_both : (bases : Bases) (ds : List Tree) (exit_env : Option Env) (a b : List Env)
+    → with_breaks bases ds (with_breaks bases ds exit_env a) b ≡ with_breaks bases ds exit_env (a ++ b)
 breaks_both bases ds None a b = refl
 breaks_both bases ds (Some way) a b = ap Some (joined_both bases ds way a b)
 
-pub no_breaks : (bases : Bases) (ds : List Tree) (broken : Option Env) → broken ≡ with_breaks bases ds broken []
+pub no_breaks : (bases : Bases) (ds : List Tree) (exit_env : Option Env) → exit_env ≡ with_breaks bases ds exit_env []
 no_breaks bases ds None = refl
 no_breaks bases ds (Some way) = refl
 
-module _ (setting : Surroundings) (declared : List Tree) (table : DeclaredTypes)
-    (kt : IsWellFormedEnv setting.context.bases table) where
-  open setting use {context as ctx, context_well_formed as ck}
+module _ (around : Surroundings) (declared : List Tree) (table : DeclaredTypes)
+    (kt : IsWellFormedEnv around.context.bases table) where
+  open around use {context as ctx, context_well_formed as ck}
 
   abbrev EnvHere : Env → Type 0
-  EnvHere env = EnvFits setting declared table env
+  EnvHere env = EnvFits around declared table env
 
   -- an environment where a condition is true, or false
   pub truth_same : (b : Test) (c : Expr) (env : Env) → EnvHere env → narrow ctx.bases declared ctx.resolve b c env
@@ -79,19 +79,19 @@ module _ (setting : Surroundings) (declared : List Tree) (table : DeclaredTypes)
       })
 
   -- one `break` more
-  pub one_break : (broken : Option Env) (env : Env) → OutFits setting declared table broken → EnvHere env
-      → join_onto_way ctx.bases table broken env ≡ with_breaks ctx.bases declared broken (env ∷ [])
+  pub one_break : (exit_env : Option Env) (env : Env) → OutFits around declared table exit_env → EnvHere env
+      → join_onto_way ctx.bases table exit_env env ≡ with_breaks ctx.bases declared exit_env (env ∷ [])
   one_break None env h k = refl
   one_break (Some way) env h k = ap Some (sym (join_same way env h k))
 
-  pub break_fits : (broken : Option Env) (env : Env) → OutFits setting declared table broken → EnvHere env
-      → OutFits setting declared table (join_onto_way ctx.bases table broken env)
+  pub break_fits : (exit_env : Option Env) (env : Env) → OutFits around declared table exit_env → EnvHere env
+      → OutFits around declared table (join_onto_way ctx.bases table exit_env env)
   break_fits None env h k = tt
   break_fits (Some way) env h k = join_fits way env h k
 
   -- one way more where several meet
-  pub one_way : (before : List Env) (out : Option Env) → OutFits setting declared table
-      (join_ways ctx.bases declared before) → OutFits setting declared table out
+  pub one_way : (before : List Env) (out : Option Env) → OutFits around declared table
+      (join_ways ctx.bases declared before) → OutFits around declared table out
       → with_way ctx.bases table (join_ways ctx.bases declared before) out ≡ join_ways ctx.bases declared
       (before ++ option_to_list out)
   one_way before None h k = ap (join_ways ctx.bases declared) (sym (append-nil before))
@@ -99,8 +99,8 @@ module _ (setting : Surroundings) (declared : List Tree) (table : DeclaredTypes)
   one_way (e ∷ es) (Some env) h k = ap Some (sym (join_same (join_envs_onto ctx.bases declared e es) env h k)
       ∙ joined_both ctx.bases declared e es (env ∷ []))
 
-  pub way_fits : (ways out : Option Env) → OutFits setting declared table ways → OutFits setting declared table out
-      → OutFits setting declared table (with_way ctx.bases table ways out)
+  pub way_fits : (ways out : Option Env) → OutFits around declared table ways → OutFits around declared table out
+      → OutFits around declared table (with_way ctx.bases table ways out)
   way_fits ways None h k = h
   way_fits None (Some env) h k = k
   way_fits (Some way) (Some env) h k = join_fits way env h k

@@ -38,8 +38,8 @@ use Rattle.pc_module_rules.proofs.StoredTypes.{turns_well_formed}
 use Rattle.pc_module_rules.proofs.WalkedFindings.{lists_expression, lists_flows}
 use Rattle.pc_module_rules.proofs.WalkedTables.{types_well_formed}
 
-module _ (setting : Surroundings) where
-  open setting use {whole as m, context as ctx, context_well_formed as ck}
+module _ (around : Surroundings) where
+  open around use {whole as m, context as ctx, context_well_formed as ck}
 
   -- ---- flows
 
@@ -53,7 +53,7 @@ module _ (setting : Surroundings) where
   flows_found p label ts flows e = subst (λ fs. Lists (flows_at p fs) (IsFlowAt p flows)) (sym e) (lists_flows p flows)
 
   module _ (declared : List Tree) (table : DeclaredTypes) (kt : IsWellFormedEnv ctx.bases table) (env : Env)
-      (h : EnvFits setting declared table env) where
+      (h : EnvFits around declared table env) where
     -- the standing of the expressions that the walk types
     abbrev pub here : Standing
     here = record { context = ctx; declared = type_table table; env = env; keeps = false }
@@ -86,7 +86,7 @@ module _ (setting : Surroundings) where
 
     module _ (returned : Tree) where
       abbrev context : BodyContext
-      context = body_context_in setting returned
+      context = body_context_in around returned
 
       -- the walk reads the label of a turn's item, and what is found in the iterable
       pub record IterableTold (e : Expr) (labels : Labels e) (item read : Label) (found : List Note) : Type 0 where
@@ -168,7 +168,7 @@ module _ (setting : Surroundings) where
               (range_lawful labels l.0) (subst (λ xs. Lists xs (Finds (call p (name n) args kws) range_labels))
               range_listed (lists_expression (call p (name n) args kws) range_labels));
           well_formed = subst (λ x. IsWellFormed ctx.bases x.type) (sym l.1)
-              (range_item_well_formed setting (is_suited (arguments_given args kws) range_signature));
+              (range_item_well_formed around (is_suited (arguments_given args kws) range_signature));
         }
         call_told false labels item l = values_told (call p (name n) args kws) labels item l
 

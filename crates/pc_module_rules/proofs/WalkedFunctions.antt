@@ -6,7 +6,7 @@ use Rattle.pc_source.specs.declared.place.Place.{Place}
 use Rattle.pc_tree.specs.declared.code.Code.{Code}
 use Rattle.pc_tree.specs.declared.code.Code.TheVariants.{E21}
 use Rattle.pc_tree.specs.Code.{finding}
-use Rattle.pc_scope.specs.declared.resolution.NameMeaning.TheVariants as res
+use Rattle.pc_scope.specs.declared.resolution.NameMeaning.TheVariants as meaning
 use Rattle.pc_scope.specs.Resolution.{locals}
 use Rattle.pc_types.specs.Tree.{Tree, NoneType}
 use Rattle.pc_types.specs.Below.{Bases, AreSmaller}
@@ -70,7 +70,7 @@ bodies_say m constants kc owner f labels l found =
     let env = entry_env here.context.resolve [] entries none in
     let e = all_entered here ds [] none none (none_fits here ds) (none_assigned_fits here ds l.each_local) entries
     (entries_well_formed m owner f) l.entry in
-    let w : Walk = record { table = start.0; env = Some start.1; broken = None; found = found } in
+    let w : Walk = record { table = start.0; env = Some start.1; exit_env = None; found = found } in
     let k = returned_well_formed m f in
     let body = suite_says here (return_type m f) k ds (names_entered [] entries) w env (ap Some e.env_is) e.fits
     e.env_fits tt f.body labels.body labels.out l.body in

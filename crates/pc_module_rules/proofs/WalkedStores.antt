@@ -28,23 +28,23 @@ use Rattle.pc_module_rules.proofs.StoredTypes.{fields_stored, items_stored, keys
 use Rattle.pc_module_rules.proofs.WalkedFindings.{lists_nothing, lists_same, lists_both, lists_codes}
 use Rattle.pc_module_rules.proofs.WalkedExpressions.{here, ExpressionTold, told, flows_told, flows_found}
 
-module _ (setting : Surroundings) (returned : Tree) (kr : IsWellFormed setting.context.bases returned)
-    (declared : List Tree) (table : DeclaredTypes) (kt : IsWellFormedEnv setting.context.bases table) (env : Env)
-    (h : EnvFits setting declared table env) where
-  open setting use {whole as m, context as ctx, context_well_formed as ck}
+module _ (around : Surroundings) (returned : Tree) (kr : IsWellFormed around.context.bases returned)
+    (declared : List Tree) (table : DeclaredTypes) (kt : IsWellFormedEnv around.context.bases table) (env : Env)
+    (h : EnvFits around declared table env) where
+  open around use {whole as m, context as ctx, context_well_formed as ck}
 
   abbrev context : BodyContext
-  context = body_context_in setting returned
+  context = body_context_in around returned
 
   abbrev at_env : Standing
-  at_env = here setting declared table kt env h
+  at_env = here around declared table kt env h
 
   abbrev Reads : (want : Option Tree) (e : Expr) → Labels e → Type 0
-  Reads want e labels = ExpressionTold setting declared table kt env h want e labels
+  Reads want e labels = ExpressionTold around declared table kt env h want e labels
 
   read : (want : Option Tree) → IsWellFormedIfAny ctx.bases want → (e : Expr) (labels : Labels e)
       → Lawful ctx declared env want e labels → Reads want e labels
-  read want kw e labels l = told setting declared table kt env h want kw e labels l
+  read want kw e labels l = told around declared table kt env h want kw e labels l
 
   -- an expression, and then its flows into several types
   flowing : (want : Option Tree) (e : Expr) (labels : Labels e) (ts : List Tree) (flows : FlowLabels)
@@ -52,8 +52,8 @@ module _ (setting : Surroundings) (returned : Tree) (kr : IsWellFormed setting.c
       → Lists (flows_at (place_of e) (flows_of ctx.bases (label_in at_env want e) ts)) (IsFlowAt (place_of e) flows)
   flowing want e labels ts flows v k l =
       subst (λ x. Lists (flows_at (place_of e) (flows_of ctx.bases x ts)) (IsFlowAt (place_of e) flows)) (sym v.label)
-      (flows_found setting (place_of e) (whole_label e labels) ts flows
-      (flows_told setting (whole_label e labels) ts flows v.well_formed k l))
+      (flows_found around (place_of e) (whole_label e labels) ts flows
+      (flows_told around (whole_label e labels) ts flows v.well_formed k l))
 
   -- ---- stores
 
@@ -66,7 +66,7 @@ module _ (setting : Surroundings) (returned : Tree) (kr : IsWellFormed setting.c
       ⊎ (Finds e labels f ⊎ IsFlowAt (place_of e) flows f))
   stored_says os k p e labels flows l fl =
       let want = only_type os (stored_types os) in
-      let v = read want (only_well_formed setting.context.bases os (stored_types os) k) e labels l in
+      let v = read want (only_well_formed around.context.bases os (stored_types os) k) e labels l in
       let xs = finds_in at_env want e in
       let ys = flows_at (place_of e) (flows_of ctx.bases (label_in at_env want e) (stored_types os)) in
       lists_both (codes_at p (store_codes os)) (xs ++ ys) (lists_codes p (store_codes os))
@@ -169,8 +169,8 @@ module _ (setting : Surroundings) (returned : Tree) (kr : IsWellFormed setting.c
       (λ f. IsFlowAt (option_place m ctx p e) flows f ⊎ OptionFinds m ctx e labels f)
   return_says p None labels flows l =
       lists_same (return_finds context at_env p None) (λ f y. inl y) (λ f y. elim y [ inl a ↦ a | inr b ↦ absurd b ])
-      (flows_found setting p (clean NoneType) (returned ∷ []) flows
-      (flows_told setting (clean NoneType) (returned ∷ []) flows (tt, tt, omega arith) (kr, tt) l))
+      (flows_found around p (clean NoneType) (returned ∷ []) flows
+      (flows_told around (clean NoneType) (returned ∷ []) flows (tt, tt, omega arith) (kr, tt) l))
   return_says p (Some e) labels flows l =
       let v = read (Some returned) kr e labels l.0 in
       let xs = finds_in at_env (Some returned) e in

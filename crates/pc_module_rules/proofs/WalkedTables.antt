@@ -8,7 +8,7 @@ use Rattle.std.proofs.lemmas.Slice.Eq.{bytes_eq-Decides}
 use Rattle.pc_tree.specs.Tree.{Name, Stmts, no_stmts, more_stmts}
 use Rattle.pc_tree.specs.Stopping.{bound_by, bound_by_stmt}
 use Rattle.pc_scope.specs.declared.resolution.NameMeaning.{NameMeaning}
-use Rattle.pc_scope.specs.declared.resolution.NameMeaning.TheVariants as res
+use Rattle.pc_scope.specs.declared.resolution.NameMeaning.TheVariants as meaning
 use Rattle.pc_scope.specs.Bindings.{texts}
 use Rattle.pc_scope.specs.Resolution.{is_one_of}
 use Rattle.pc_types.specs.Tree.{Tree, Any}
@@ -49,25 +49,25 @@ set_same (d ∷ ds) (o ∷ os) [] x t e h = absurd h
 true_false : {b : Test} → b ≡ true → b ≡ false → ⊥
 true_false e e' = absurd (grind (arith, e, e'))
 
-local_one : {x y : ℕ} → res.Local x ≡ res.Local y → x ≡ y
+local_one : {x y : ℕ} → meaning.Local x ≡ meaning.Local y → x ≡ y
 local_one e = grind arith
 
 or_none : (a b : Test) → (a || b) ≡ false → (a ≡ false) × (b ≡ false)
 or_none true b e = absurd (grind (arith, e))
 or_none false b e = (refl, e)
 
-module _ (setting : Surroundings) (declared : List Tree) where
-  open setting use {context as ctx, count, locals as names}
+module _ (around : Surroundings) (declared : List Tree) where
+  open around use {context as ctx, count, locals as names}
 
   abbrev TableHere : NamesBound → DeclaredTypes → Type 0
-  TableHere seen table = TableFits setting declared seen table
+  TableHere seen table = TableFits around declared seen table
 
   -- each environment that fits one table fits the other
   abbrev pub KeepsFits : DeclaredTypes → DeclaredTypes → Type 0
-  KeepsFits table after = (env : Env) → EnvFits setting declared table env → EnvFits setting declared after env
+  KeepsFits table after = (env : Env) → EnvFits around declared table env → EnvFits around declared after env
 
-  pub out_grows : (table after : DeclaredTypes) (out : Option Env) → KeepsFits table after → OutFits setting declared table out
-      → OutFits setting declared after out
+  pub out_grows : (table after : DeclaredTypes) (out : Option Env) → KeepsFits table after → OutFits around declared table out
+      → OutFits around declared after out
   out_grows table after None g h = tt
   out_grows table after (Some env) g h = g env h
 
@@ -95,8 +95,8 @@ module _ (setting : Surroundings) (declared : List Tree) where
 
   -- a table with one name more
   pub record NameFits (seen : NamesBound) (word : List ℕ) (table after : DeclaredTypes) : Type 0 where
-    pub fits : TableFits setting declared (word ∷ seen) after
-    pub grows : (env : Env) → EnvFits setting declared table env → EnvFits setting declared after env
+    pub fits : TableFits around declared (word ∷ seen) after
+    pub grows : (env : Env) → EnvFits around declared table env → EnvFits around declared after env
 
   -- a name bound again
   again_fits : (seen : NamesBound) (word : List ℕ) (table : DeclaredTypes) → is_one_of word seen ≡ true → TableHere seen table
@@ -109,7 +109,7 @@ module _ (setting : Surroundings) (declared : List Tree) where
           [ inl e ↦ subst (λ v. is_one_of v seen ≡ true) (sym ((bytes_eq-Decides w word).0 e)) a | inr k ↦ k ]
 
   -- a name that means no local
-  pub other_fits : (seen : NamesBound) (word : List ℕ) (table : DeclaredTypes) → ((x : ℕ) → ctx.resolve word ≡ res.Local x → ⊥)
+  pub other_fits : (seen : NamesBound) (word : List ℕ) (table : DeclaredTypes) → ((x : ℕ) → ctx.resolve word ≡ meaning.Local x → ⊥)
       → TableHere seen table → NameFits seen word table table
   other_fits seen word table other h = record {
     fits = record {
@@ -125,12 +125,12 @@ module _ (setting : Surroundings) (declared : List Tree) where
     grows = λ env k. k;
   }
 
-  module _ (seen : NamesBound) (word : List ℕ) (x : ℕ) (i : ctx.resolve word ≡ res.Local x) (table : DeclaredTypes)
-      (h : TableFits setting declared seen table) where
+  module _ (seen : NamesBound) (word : List ℕ) (x : ℕ) (i : ctx.resolve word ≡ meaning.Local x) (table : DeclaredTypes)
+      (h : TableFits around declared seen table) where
     -- another name means another local
-    apart : (w : List ℕ) (y : ℕ) → ctx.resolve w ≡ res.Local y → bytes_eq w word ≡ false → y ≡ x → ⊥
+    apart : (w : List ℕ) (y : ℕ) → ctx.resolve w ≡ meaning.Local y → bytes_eq w word ≡ false → y ≡ x → ⊥
     apart w y r e q =
-        let same : w ≡ word = names.apart w word x (r ∙ ap res.Local q) i in
+        let same : w ≡ word = names.apart w word x (r ∙ ap meaning.Local q) i in
         true_false ((bytes_eq-Decides w word).1 same) e
 
     -- a name bound first
@@ -153,7 +153,7 @@ module _ (setting : Surroundings) (declared : List Tree) where
             ∙ ap Some (sym d)
 
         is_bound : (w : List ℕ) (y : ℕ) (b : Test) → bytes_eq w word ≡ b → (bytes_eq w word || is_one_of w seen) ≡ true
-            → ctx.resolve w ≡ res.Local y → bound_type (slice_set table x (Some t)) y ≡ Some (declared_type declared y)
+            → ctx.resolve w ≡ meaning.Local y → bound_type (slice_set table x (Some t)) y ≡ Some (declared_type declared y)
         is_bound w y true e a r =
             let q : x ≡ y = local_one (sym i ∙ ap ctx.resolve (sym ((bytes_eq-Decides w word).0 e)) ∙ r) in
             subst (λ z. bound_type (slice_set table x (Some t)) z ≡ Some (declared_type declared z)) q here
@@ -176,35 +176,35 @@ module _ (setting : Surroundings) (declared : List Tree) where
 
   module _ (returned : Tree) where
     abbrev context : BodyContext
-    context = body_context_in setting returned
+    context = body_context_in around returned
 
     unreached_fits : (seen : NamesBound) (table : DeclaredTypes) → TableHere seen table → (n : Name) (r : NameMeaning)
-        → ctx.resolve n.text ≡ r → UndeclaredName setting.whole ctx declared (is_first seen n) r
+        → ctx.resolve n.text ≡ r → UndeclaredName around.whole ctx declared (is_first seen n) r
         → NameFits seen n.text table (unreached_name context table r)
-    unreached_fits seen table h n (res.Local x) i u = name_fits seen n.text x i table h Any
+    unreached_fits seen table h n (meaning.Local x) i u = name_fits seen n.text x i table h Any
         (λ e. is_any (is_first seen n) (ap not e) u) (tt, tt, omega arith)
       where
-        is_any : (b : Test) → b ≡ true → UndeclaredName setting.whole ctx declared b (res.Local x)
+        is_any : (b : Test) → b ≡ true → UndeclaredName around.whole ctx declared b (meaning.Local x)
             → declared_type declared x ≡ Any
         is_any true e u = u
         is_any false e u = absurd (grind (arith, e))
-    unreached_fits seen table h n (res.Const c) i u = other_fits seen n.text table (λ x j. absurd (grind (arith, i, j)))
+    unreached_fits seen table h n (meaning.Const c) i u = other_fits seen n.text table (λ x j. absurd (grind (arith, i, j)))
         h
-    unreached_fits seen table h n (res.Func c) i u = other_fits seen n.text table (λ x j. absurd (grind (arith, i, j)))
+    unreached_fits seen table h n (meaning.Func c) i u = other_fits seen n.text table (λ x j. absurd (grind (arith, i, j)))
         h
-    unreached_fits seen table h n (res.Class c) i u = other_fits seen n.text table (λ x j. absurd (grind (arith, i, j)))
+    unreached_fits seen table h n (meaning.Class c) i u = other_fits seen n.text table (λ x j. absurd (grind (arith, i, j)))
         h
-    unreached_fits seen table h n (res.Builtin c) i u = other_fits seen n.text table
+    unreached_fits seen table h n (meaning.Builtin c) i u = other_fits seen n.text table
         (λ x j. absurd (grind (arith, i, j))) h
-    unreached_fits seen table h n res.None i u = other_fits seen n.text table (λ x j. absurd (grind (arith, i, j))) h
+    unreached_fits seen table h n meaning.None i u = other_fits seen n.text table (λ x j. absurd (grind (arith, i, j))) h
 
     -- a table with several names more
     pub record NamesFit (after : NamesBound) (table more : DeclaredTypes) : Type 0 where
-      pub fits : TableFits setting declared after more
-      pub grows : (env : Env) → EnvFits setting declared table env → EnvFits setting declared more env
+      pub fits : TableFits around declared after more
+      pub grows : (env : Env) → EnvFits around declared table env → EnvFits around declared more env
 
     pub all_unreached_fit : (seen : NamesBound) (table : DeclaredTypes) → TableHere seen table → (ns : List Name)
-        → AreUndeclared setting.whole ctx declared seen ns → NamesFit (texts ns ++ seen) table
+        → AreUndeclared around.whole ctx declared seen ns → NamesFit (texts ns ++ seen) table
         (unreached_names context table ns)
     all_unreached_fit seen table h [] u = record { fits = h; grows = λ env k. k }
     all_unreached_fit seen table h (n ∷ ns) u =
@@ -220,15 +220,15 @@ module _ (setting : Surroundings) (declared : List Tree) where
     unreached_more table (n ∷ a) b = unreached_more (unreached_name context table (ctx.resolve n.text)) a b
 
     abbrev stopped : Walk → List Name → Walk
-    stopped w ns = record { table = unreached_names context w.table ns; env = None; broken = w.broken; found = w.found }
+    stopped w ns = record { table = unreached_names context w.table ns; env = None; exit_env = w.exit_env; found = w.found }
 
     pub unreached_suite : (w : Walk) → w.env ≡ None → (b : Stmts) → walk_suite context w b ≡ stopped w (bound_by b)
-    unreached_suite w e no_stmts = λ i. record { table = w.table; env = e i; broken = w.broken; found = w.found }
+    unreached_suite w e no_stmts = λ i. record { table = w.table; env = e i; exit_env = w.exit_env; found = w.found }
     unreached_suite w e (more_stmts s rest) =
-        let none : Walk = record { table = w.table; env = None; broken = w.broken; found = w.found } in
+        let none : Walk = record { table = w.table; env = None; exit_env = w.exit_env; found = w.found } in
         let here : walk_suite context w (more_stmts s rest) ≡ walk_suite context none (more_stmts s rest) =
-        ap (λ o. walk_suite context (record { table = w.table; env = o; broken = w.broken; found = w.found })
+        ap (λ o. walk_suite context (record { table = w.table; env = o; exit_env = w.exit_env; found = w.found })
         (more_stmts s rest)) e in
         here ∙ unreached_suite (stopped w (bound_by_stmt s)) refl rest
-        ∙ ap (λ t. record { table = t; env = None; broken = w.broken; found = w.found })
+        ∙ ap (λ t. record { table = t; env = None; exit_env = w.exit_env; found = w.found })
         (unreached_more w.table (bound_by_stmt s) (bound_by rest))

@@ -12,7 +12,7 @@ use Rattle.pc_scope.specs.declared.resolution.Owner.{Owner}
 use Rattle.pc_scope.specs.declared.resolution.Owner.TheVariants as owners
 use Rattle.pc_scope.specs.Resolution.{is_one_of, receiver, locals, resolve_among}
 use Rattle.pc_scope.specs.declared.resolution.NameMeaning.{NameMeaning}
-use Rattle.pc_scope.specs.declared.resolution.NameMeaning.TheVariants as res
+use Rattle.pc_scope.specs.declared.resolution.NameMeaning.TheVariants as meaning
 use Rattle.pc_scope_findings.specs.Findings.{ScopeFinds}
 use Rattle.pc_types.specs.Tree.{Tree, NoneType}
 use Rattle.pc_types.specs.Tree as tree
@@ -50,7 +50,7 @@ names_entered seen (p ∷ ps) = names_entered (p.name ∷ seen) ps
 
 -- the declared type of a parameter is its type; a name that is already bound, or reserved, binds nothing
 abbrev pub DeclaredEntry : (declared : List Tree) → (first : Test) → NameMeaning → Tree → Type 0
-DeclaredEntry declared true (res.Local x) t = declared_type declared x ≡ t
+DeclaredEntry declared true (meaning.Local x) t = declared_type declared x ≡ t
 DeclaredEntry declared first r t = Unit {0}
 
 -- each parameter that binds a local has its type as declared type, after the names bound so far
@@ -62,7 +62,7 @@ LawfulEntry resolve declared seen (p ∷ ps) =
 
 -- at the entry the parameters are assigned, and no other local
 abbrev pub assigned_at_entry : (first : Test) → NameMeaning → Tree → Env → Env
-assigned_at_entry true (res.Local x) t env = assign env x t
+assigned_at_entry true (meaning.Local x) t env = assign env x t
 assigned_at_entry first r t env = env
 
 -- the environment with these parameters assigned, after the names bound so far

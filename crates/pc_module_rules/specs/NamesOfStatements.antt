@@ -7,7 +7,7 @@ use Rattle.pc_tree.specs.Tree.{continues, returns, asserts, annotated, assigns, 
 use Rattle.pc_tree.specs.Tree.{conditional, no_stmts, more_stmts, no_branches, more_branches}
 use Rattle.pc_scope.specs.Reach.{completes}
 use Rattle.pc_scope.specs.declared.resolution.NameMeaning.{NameMeaning}
-use Rattle.pc_scope.specs.declared.resolution.NameMeaning.TheVariants as res
+use Rattle.pc_scope.specs.declared.resolution.NameMeaning.TheVariants as meaning
 use Rattle.pc_types.specs.Tree.{Tree}
 use Rattle.pc_flow.specs.Environment.{declared_type, assigned_type}
 use Rattle.pc_rules.specs.Labels.{FlowLabels, type_of}
@@ -23,14 +23,14 @@ pub record NameAt : Type 0 where
 module _ (resolve : List ℕ → NameMeaning) (declared : List Tree) where
   -- a name bound to a value of this type, which flows into the declared type; only a local is bound
   abbrev pub name_bound : Name → NameMeaning → (from : Tree) → FlowLabels → List NameAt
-  name_bound n (res.Local x) from flows =
+  name_bound n (meaning.Local x) from flows =
       let d = declared_type declared x in
       record { place = n.place; declared = d; current = Some (assigned_type d from (only_code flows)) } ∷ []
   name_bound n _ from flows = []
 
   -- a name annotated without a value: it has a declared type, and no current one
   abbrev pub name_declared : Name → NameMeaning → List NameAt
-  name_declared n (res.Local x) = record {
+  name_declared n (meaning.Local x) = record {
     place = n.place;
     declared = declared_type declared x;
     current = None;

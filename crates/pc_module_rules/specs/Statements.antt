@@ -13,7 +13,7 @@ use Rattle.pc_tree.specs.Tree.{Stmt, Stmts, Branches, pass, breaks, continues, r
 use Rattle.pc_tree.specs.Tree.{evaluates, while_loop, for_loop, conditional, no_stmts, more_stmts, no_branches}
 use Rattle.pc_tree.specs.Tree.{more_branches, Module}
 use Rattle.pc_scope.specs.declared.resolution.NameMeaning.{NameMeaning}
-use Rattle.pc_scope.specs.declared.resolution.NameMeaning.TheVariants as res
+use Rattle.pc_scope.specs.declared.resolution.NameMeaning.TheVariants as meaning
 use Rattle.pc_tree.specs.Stopping.{bound_by_stmt, bound_by, bound_by_branches}
 use Rattle.pc_tree.specs.Depth.{place_of}
 use Rattle.pc_scope.specs.Bindings.{texts}
@@ -51,7 +51,7 @@ is_first seen n = not (is_one_of n.text seen)
 
 -- whether a meaning is the local of this number
 abbrev pub is_local_number : ℕ → NameMeaning → Test
-is_local_number x (res.Local y) = nat_eq x y
+is_local_number x (meaning.Local y) = nat_eq x y
 is_local_number x _ = false
 
 -- whether one of the names means the local of this number
@@ -126,7 +126,7 @@ module _ (m : Module) (ctx : Context) (declared : List Tree) where
   -- the binding of a value to a name is lawful; a name that means no local binds nothing, and nothing flows into it
   abbrev pub LawfulBinding : Env → NamesBound → Name → NameMeaning → Option Tree → (e : Expr) → Labels e → FlowLabels → Env
       → Type 0
-  LawfulBinding env seen n (res.Local x) annotation e labels flows after = record {
+  LawfulBinding env seen n (meaning.Local x) annotation e labels flows after = record {
     value : Lawful ctx declared env (known_type (is_first seen n) x annotation) e labels;
     at_first : DeclaredAt (is_first seen n) x annotation (type_of e labels);
     flow : FlowsInto ctx.bases (whole_label e labels) (declared_type declared x ∷ []) flows;
@@ -140,12 +140,12 @@ module _ (m : Module) (ctx : Context) (declared : List Tree) where
 
   -- the annotation of a name without a value is lawful
   abbrev pub LawfulDeclaration : NamesBound → Name → NameMeaning → Tree → Type 0
-  LawfulDeclaration seen n (res.Local x) t = DeclaredAt (is_first seen n) x (Some t) t
+  LawfulDeclaration seen n (meaning.Local x) t = DeclaredAt (is_first seen n) x (Some t) t
   LawfulDeclaration seen n _ t = Unit {0}
 
   -- the target of a `for` is lawful, with its item type
   abbrev pub LawfulTarget : NamesBound → Name → NameMeaning → Env → Label → FlowLabels → Env → Type 0
-  LawfulTarget seen n (res.Local x) head item flows inside = record {
+  LawfulTarget seen n (meaning.Local x) head item flows inside = record {
     at_first : DeclaredAt (is_first seen n) x None item.type;
     flow : FlowsInto ctx.bases (clean item.type) (declared_type declared x ∷ []) flows;
     inside_is : inside ≡ bound_env head x item.type flows;
@@ -154,7 +154,7 @@ module _ (m : Module) (ctx : Context) (declared : List Tree) where
 
   -- a local first bound in unreachable code has declared type Any
   abbrev pub UndeclaredName : (first : Test) → NameMeaning → Type 0
-  UndeclaredName true (res.Local x) = declared_type declared x ≡ Any
+  UndeclaredName true (meaning.Local x) = declared_type declared x ≡ Any
   UndeclaredName first r = Unit {0}
 
   -- each of the names first bound in unreachable code has declared type Any
@@ -323,7 +323,7 @@ module _ (m : Module) (ctx : Context) where
   -- the findings at an annotation: E24 if the name is a parameter or bound earlier in text; else those in the
   -- annotation
   abbrev pub AnnotationFinds : NameMeaning → (first : Test) → Name → Ann → Finding → Type 0
-  AnnotationFinds (res.Local x) false n a f = f ≡ finding n.place E24
+  AnnotationFinds (meaning.Local x) false n a f = f ≡ finding n.place E24
   AnnotationFinds r first n a f = AnnFinds m ctx.bases a f
 
   -- the findings in statements, suites and branches, after the names bound so far

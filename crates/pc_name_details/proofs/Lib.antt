@@ -1,7 +1,6 @@
 pub mod BoundMembers
 pub mod ClassesAbove
 pub mod FindingsKept
-pub mod FirstNamed
 pub mod LeavingSteps
 pub mod MemberDetails
 pub mod MemberOrders

@@ -27,7 +27,7 @@ use Rattle.pc_detail_rules.specs.Names.{repeated_name, twice_among}
 use Rattle.pc_name_details.specs.Naming.{AreFirst, place_held, reserved_of_names}
 use Rattle.pc_name_details.specs.Offered.{AddsDetails, Rule, of_code, at_place}
 use Rattle.pc_detail_rules.specs.Overrides.{detail_or}
-use Rattle.pc_name_details.proofs.FirstNamed.{kept_first, put_first}
+use Rattle.pc_detail_facts.proofs.FirstNamed.{kept_first, put_first}
 use Rattle.pc_name_details.proofs.Offered.{added_as, added_both, none_added}
 
 -- ---- first places

@@ -25,7 +25,7 @@ use Rattle.pc_detail_texts.specs.Shown.{early_of_value}
 use Rattle.pc_detail_texts.specs.declared.details.Early.{Early as RustEarly}
 use Rattle.pc_detail_texts.specs.Shortened.{shortened}
 use Rattle.pc_name_details.specs.declared.bindings.Bindings.{Bindings}
-use Rattle.pc_detail_facts.specs.declared.facts.Body.{Body as RustBody}
+use Rattle.pc_detail_facts.specs.declared.definitions.Body.{Body as RustBody}
 use Rattle.pc_detail_facts.specs.declared.facts.Facts.{Facts}
 use Rattle.pc_detail_facts.specs.Held.{ShowsDetail, text_held}
 use Rattle.pc_detail_rules.specs.Names.{class_around, elsewhere, elsewhere_among, elsewhere_or, first_named, names_of_body}
@@ -33,7 +33,7 @@ use Rattle.pc_detail_rules.specs.Names.{place_of_name, places_named, unassigned_
 use Rattle.pc_detail_rules.specs.Nodes.{function_name, owned}
 use Rattle.pc_name_details.specs.Uses.{AreBound, Binding, binding, binding_held, bindings_of, first_bound, first_three, pair_bound}
 use Rattle.pc_name_details.specs.Uses.{place_bound}
-use Rattle.pc_name_details.proofs.FirstNamed.{kept_first, put_first}
+use Rattle.pc_detail_facts.proofs.FirstNamed.{kept_first, put_first}
 
 text_bound : Binding → List ℕ
 text_bound b = b.name.text

@@ -48,7 +48,7 @@ use Rattle.pc_detail_rules.specs.Statements.{loose_detail, outside_loop_detail, 
 
 -- ---- names with their first places
 
--- the place where a name first stands, if it is one of those that are kept
+-- the place where a name first occurs, if it is one of those that are kept
 abbrev pub place_held : FirstPlaces → List ℕ → Option Place
 place_held f word = get_by (λ k. slice_cmp nat_cmp word k.now) f.places
 
@@ -58,13 +58,13 @@ pub record AreFirst (f : FirstPlaces) (names : List Name) : Type 0 where
 
 -- ---- names that are bound together
 
--- what a name at this place is to a later one
+-- a name at this place, as the earlier binding of a later one
 abbrev pub earlier_held : RustTogether → Place → Earlier
 earlier_held bound.Items = detail.earlier_item
 earlier_held (bound.Parameters b) = detail.earlier_parameter
 earlier_held bound.Arguments = detail.earlier_argument
 
--- whether `self` stands before them
+-- whether `self` comes before them
 abbrev pub has_self : RustTogether → Test
 has_self (bound.Parameters b) = b
 has_self t = false

@@ -61,7 +61,7 @@ of_code c rule f = if is_same_code c f.code then rule f.place else None
 abbrev pub at_place : Place → Option (Detail Tree) → Place → Option (Detail Tree)
 at_place q d p = if is_same_place p q then d else None
 
--- what is kept of a finding after a rule: what was kept before, else what the rule gives, if it is asked for
+-- the detail that is kept of a finding after a rule: the one before, else that of the rule, if it is asked for
 abbrev pub kept_after : Facts → Offers → Rule → Finding → Option (Detail Words)
 kept_after facts o rule f = or_else (kept_of o f)
     (if is_wanted o f then option_map (map_detail (text_held facts)) (rule f) else None)

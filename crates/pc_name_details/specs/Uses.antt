@@ -8,7 +8,7 @@ use Rattle.pc_source.specs.declared.place.Place.{Place}
 use Rattle.pc_tree.specs.Tree.{Name}
 use Rattle.pc_scope.specs.Bindings.{Body}
 use Rattle.pc_name_details.specs.declared.bindings.Bindings.{Bindings}
-use Rattle.pc_detail_facts.specs.declared.facts.Body.{Body as RustBody}
+use Rattle.pc_detail_facts.specs.declared.definitions.Body.{Body as RustBody}
 use Rattle.pc_detail_facts.specs.Held.{body_of}
 use Rattle.pc_detail_rules.specs.Names.{names_of_body}
 
@@ -33,7 +33,7 @@ first_bound word bs = find (λ b. bytes_eq word b.name.text) bs
 abbrev pub place_bound : Binding → Body × Place
 place_bound b = (b.body, b.name.place)
 
--- what is held of a name
+-- the function and the place that are held of a name
 abbrev pub binding_held : Bindings → List ℕ → Option (RustBody × Place)
 binding_held b word = get_by (λ k. slice_cmp nat_cmp word k.now) b.first
 
@@ -41,7 +41,7 @@ binding_held b word = get_by (λ k. slice_cmp nat_cmp word k.now) b.first
 abbrev pub pair_bound : RustBody × Place → Body × Place
 pair_bound v = (body_of v.0, v.1)
 
--- what is held is the first of these bindings of each name
+-- the bindings that are held are the first of each name among these
 pub record AreBound (b : Bindings) (bs : List Binding) : Type 0 where
   pub at : (word : List ℕ) → option_map pair_bound (binding_held b word) ≡ option_map place_bound (first_bound word bs)
 

@@ -197,7 +197,7 @@ fn clash_above<'m>(facts: &Facts<'m, '_>, number: usize, member: &Member) -> Opt
     None
 }
 
-/// Keeps that a member of a class has the name of another one.
+/// Adds the detail of a member of a class that has the name of an earlier one.
 fn keep_member(
     facts: &Facts<'_, '_>,
     offers: &mut Offers,
@@ -298,7 +298,7 @@ fn add_clashes(facts: &Facts<'_, '_>, offers: &mut Offers) -> Result<(), OutOfMe
     Ok(())
 }
 
-/// Finds that a member stands after a field with a default, if there is such a one.
+/// Adds the detail of a member after a field with a default, if the member needs one.
 fn add_order(
     facts: &Facts<'_, '_>,
     offers: &mut Offers,
@@ -325,8 +325,8 @@ fn add_order(
     offers.keep(Code::E08, name.place, RuleFault::FieldOrder(late, class))
 }
 
-/// Finds the members of a class that stand after a field with a default. Returns the first such field, of the class
-/// or above it, if there is one.
+/// Adds the details of the members of a class that come after a field with a default. Returns the first such field, of
+/// the class or above it, if there is one.
 fn add_orders_in<'m>(
     facts: &Facts<'m, '_>,
     offers: &mut Offers,
@@ -369,7 +369,7 @@ fn first_above<'m>(
     *first.get(base)?
 }
 
-/// Finds the members of classes that stand after a field with a default.
+/// Adds the details of the members of classes that come after a field with a default.
 fn add_orders<'m>(facts: &Facts<'m, '_>, offers: &mut Offers) -> Result<(), OutOfMemory>
     requires { AreFacts facts.now }
     ensures { OnOk result (AddsDetails facts.now (of_code E08 (field_order_detail (module_held facts.now)))

@@ -1,4 +1,4 @@
-//! Names with the places where they first stand.
+//! Names with the places where they first occur.
 
 ghost use Rattle.std.specs.Prelude.{[], ◌∷◌, ◌++◌, ◌≡◌, List, IfOk, OnOk, map};
 ghost use Rattle.pc_tree.specs.Lists.{name_seen};
@@ -10,7 +10,7 @@ use pc_tree::Name;
 use std::alloc::Global;
 use std::collections::BTreeMap;
 
-/// Names, each with the place where it first stands.
+/// Names, each with the place where it first occurs.
 #[derive(Drop)]
 pub(crate) struct FirstPlaces<'c> {
     places: BTreeMap<&'c str, Place>,
@@ -26,7 +26,7 @@ impl<'c> FirstPlaces<'c> {
         }
     }
 
-    /// Returns the place where a name first stands, if it is one of these.
+    /// Returns the place where a name first occurs, if it is one of these.
     pub(crate) fn get(&self, word: &'c str) -> Option<Place>
         ensures { result ≡ place_held self.now word.now }
     {

@@ -90,7 +90,7 @@ fn add_statement(
     add_loose(facts, offers, statement)
 }
 
-/// Finds that a statement is not reached, since the one before it leaves the suite.
+/// Adds the detail of a statement that is not reached, since the one before it leaves the suite.
 fn add_unreached(
     facts: &Facts<'_, '_>,
     offers: &mut Offers,
@@ -121,7 +121,7 @@ fn loose(statement: &Stmt) -> Option<Leaving>
     }
 }
 
-/// Finds that a `break` or a `continue` stands outside a loop.
+/// Adds the detail of a `break` or a `continue` outside a loop.
 fn add_loose(
     facts: &Facts<'_, '_>,
     offers: &mut Offers,

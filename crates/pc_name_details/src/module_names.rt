@@ -48,7 +48,7 @@ fn no_main(item: &Item) -> NoMain
     }
 }
 
-/// Finds that the word `dataclass` before a class is not imported.
+/// Adds the detail of the word `dataclass` before a class where it is not imported.
 fn add_decorator(
     facts: &Facts<'_, '_>,
     offers: &mut Offers,
@@ -63,7 +63,7 @@ fn add_decorator(
     offers.keep(Code::E02, class.decorator, fault)
 }
 
-/// Finds why a base is none: no class of its name stands before it.
+/// Adds the detail of a base that is none, since no class of its name comes before it.
 fn add_base<'m>(
     facts: &Facts<'m, '_>,
     offers: &mut Offers,
@@ -84,7 +84,7 @@ fn add_base<'m>(
     offers.keep(Code::E07, base.place, fault)
 }
 
-/// Returns the names of the classes, each with the place where it first stands.
+/// Returns the names of the classes, each with the place where it first occurs.
 fn class_places<'m>(facts: &Facts<'m, '_>) -> Result<FirstPlaces<'m>, OutOfMemory>
     ensures { IfOk result
         (λ f. AreFirst f (names_of_classes (map class_lent facts.now.definitions.now.classes.items))) }

@@ -44,7 +44,7 @@ fn first_with_default<'p>(before: Option<&'p Param>, param: &'p Param) -> Option
     }
 }
 
-/// Finds that a reserved name is bound.
+/// Adds the detail of a binding of a reserved name.
 fn add_reserved(facts: &Facts<'_, '_>, offers: &mut Offers, name: &Name) -> Result<(), OutOfMemory>
     ensures { OnOk result (AddsDetails facts.now (of_code E29 (at_place (name_of name.now).place
         (Some (detail.reserved (name_of name.now).text)))) offers.old offers.new) }
@@ -56,7 +56,7 @@ fn add_reserved(facts: &Facts<'_, '_>, offers: &mut Offers, name: &Name) -> Resu
     offers.keep(Code::E29, name.place, fault)
 }
 
-/// Finds that reserved names are bound.
+/// Adds the details of bindings of reserved names.
 pub(crate) fn add_all_reserved(
     facts: &Facts<'_, '_>,
     offers: &mut Offers,
@@ -107,7 +107,7 @@ fn add_all_late(
     Ok(())
 }
 
-/// Finds that a parameter stands after one with a default, if there is such a one.
+/// Adds the detail of a parameter after one with a default, `before`, if there is one before it.
 fn add_default_order(
     facts: &Facts<'_, '_>,
     offers: &mut Offers,
@@ -132,7 +132,7 @@ fn add_default_order(
     offers.keep(Code::E31, param.name.place, RuleFault::DefaultOrder(late))
 }
 
-/// Finds the parameters that stand after one with a default.
+/// Adds the details of the parameters that come after one with a default.
 fn add_default_orders(
     facts: &Facts<'_, '_>,
     offers: &mut Offers,

@@ -1,11 +1,12 @@
 //! Details that are found by a walk over the names and the statements of a module.
 
-ghost use Rattle.std.specs.Prelude.{◌≡◌, None, OnOk, IfOk, option_map};
+ghost use Rattle.std.specs.Prelude.{◌≡◌, None, OnOk, IfOk, Some, option_map};
+ghost use Rattle.std.specs.BTreeMap.{Updates};
 ghost use Rattle.std.specs.List.{list_any};
 ghost use Rattle.pc_tree.specs.Code.{finding};
 ghost use Rattle.pc_tree.specs.declared.code.Finding.{Finding as FindingOf};
 ghost use Rattle.pc_detail_texts.specs.Shown.{detail_of_value, rule_fault_of_value};
-ghost use Rattle.pc_name_details.specs.Offered.{KeepsDetail, is_still_open, is_same_finding, is_wanted, kept_of};
+ghost use Rattle.pc_name_details.specs.Offered.{KeepsDetail, finding_cmp, is_still_open, is_same_finding, is_wanted, kept_of};
 
 use pc_detail_texts::{Detail, RuleFault};
 use pc_source::{OutOfMemory, Place};
@@ -18,6 +19,18 @@ use std::collections::BTreeMap;
 pub struct Offers {
     wanted: BTreeMap<Finding, ()>,
     kept: BTreeMap<Finding, Detail>,
+}
+
+/// Puts a value at a finding, in place of an earlier one.
+fn put<V: Drop>(
+    values: &mut BTreeMap<Finding, V>,
+    finding: Finding,
+    value: V,
+) -> Result<(), OutOfMemory>
+    ensures { OnOk result (Updates finding_cmp values.old values.new finding (Some value)) }
+{
+    values.insert(finding, value)?;
+    Ok(())
 }
 
 impl Offers {
@@ -53,7 +66,7 @@ impl Offers {
         ensures { OnOk result (KeepsDetail (finding place code) (rule_fault_of_value fault) self.old self.new) }
     {
         let finding = Finding { place, code };
-        self.kept.insert(finding, Detail::Rule(fault))?;
+        put(&mut self.kept, finding, Detail::Rule(fault))?;
         Ok(())
     }
 

@@ -18,7 +18,7 @@ use pc_detail_texts::{Earlier, RuleFault};
 use pc_source::{OutOfMemory, Place};
 use pc_tree::{Code, Name};
 
-/// What names that are bound together are: items, the parameters of a function or of a method, or arguments by name.
+/// A kind of names that are bound together: items, the parameters of a function or of a method, or arguments by name.
 #[derive(Clone, Copy)]
 pub(crate) enum Together {
     Items,
@@ -38,7 +38,7 @@ impl Together {
         }
     }
 
-    /// Returns whether `self` stands before these names.
+    /// Returns whether `self` comes before these names.
     fn has_self(self) -> bool
         ensures { result ≡ has_self self }
     {
@@ -53,7 +53,7 @@ fn is_self(name: &Name) -> bool
     name.text.as_str() == "self"
 }
 
-/// Returns what already has a name that no name before it has: `self`, if that stands before.
+/// Returns the earlier binding of a name that no name before it has: `self`, if that comes before.
 fn earlier_self(together: Together, name: &Name) -> Option<Earlier>
     ensures { option_map earlier_of_value result ≡ repeated_name
         (has_self together && bytes_eq (name_of name.now).text (codes "self")) (earlier_held together) None }

@@ -5,6 +5,7 @@ mod by_place;
 mod notes;
 mod rebuilding;
 mod sharing;
+mod texts;
 
 pub use notes::Notes;
 pub use rebuilding::transfer;

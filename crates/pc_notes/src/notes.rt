@@ -3,27 +3,25 @@
 ghost use Rattle.std.specs.Prelude.{◌≡◌, ◌++◌, ◌∷◌, [], map, IfOk, IfSome, List, OnOk, None, option_map};
 ghost use Rattle.std.specs.Prelude.{if◌then◌else◌};
 ghost use Rattle.std.specs.Option.{option_copied};
-ghost use Rattle.std.specs.Rc.{rc_str_bytes};
-ghost use Rattle.pc_tree.specs.declared.code.Code.{Code as RustCode};
 ghost use Rattle.pc_tree.specs.Code.{finding};
 ghost use Rattle.pc_tree.specs.Tree.{module_of};
 ghost use Rattle.std.specs.BTreeMap.{get};
 ghost use Rattle.pc_source.specs.declared.place.Place.{Place as PlaceOf};
 ghost use Rattle.pc_types.specs.Boxed.{IsGiven, tree_of};
 ghost use Rattle.pc_annotations.specs.Named.{named_module};
-ghost use Rattle.pc_annotations.specs.Text.{type_text};
 ghost use Rattle.pc_types.specs.Store.{KeepsTypes};
 ghost use Rattle.pc_notes.specs.Notes.{IsGivenEntry, Note, note_of, notes_of, plain_note, flow_note, typed};
 ghost use Rattle.pc_notes.specs.Notes.{is_same_place, is_same_code, entry_place, kept_flow, flow_noted, ExplainsFlow};
-ghost use Rattle.pc_notes.specs.Notes.{findings_of, types_of, named, names_of_notes, IsGivenBound, shared_tree};
+ghost use Rattle.pc_notes.specs.Notes.{findings_of, types_of, named, names_of_notes};
 ghost use Rattle.pc_notes.specs.Notes.{IsGivenPair, type_noted, pair_shown, flow_types};
 ghost use Rattle.pc_notes.specs.declared.notes.NoteEntry.{NoteEntry as Kept};
-ghost use Rattle.pc_notes.specs.Texts.{AreFlowTexts, HasFirstFlows, HasGivenFlows, HaveTexts, place_cmp};
+ghost use Rattle.pc_notes.specs.Texts.{AreFlowTexts, HasFirstFlows, place_cmp};
 ghost use Rattle.pc_notes.specs.Texts.{name_texts_at, text_shown, texts_shown, type_text_at};
 
 use crate::by_place::{first_types, types_of_flows};
 use crate::rebuilding::transfer;
-use crate::sharing::{NamedType, SharedType, SharedTypes, shared_text};
+use crate::sharing::{SharedType, SharedTypes, shared_text};
+use crate::texts::{texts_of, texts_of_bound};
 use pc_annotations::ClassNames;
 use pc_source::{OutOfMemory, Place};
 use pc_tree::{Code, Finding, Findings, Module};
@@ -384,48 +382,4 @@ fn keep_first<'n>(
     }
     flows.insert(place, flow)?;
     Ok(())
-}
-
-/// Returns the texts of the declared type of a bound name, and of its current one, if it has a value.
-fn texts_of_bound(
-    known: &mut BTreeMap<usize, NamedType>,
-    alloc: Global,
-    names: &ClassNames<'_>,
-    types: &BoundTypes,
-) -> Result<(RcStr, Option<RcStr>), OutOfMemory>
-    requires given { IsGivenBound types.now }
-    requires named { HaveTexts (named_module names.now) known.old }
-    ensures declared { IfOk result (λ t. rc_str_bytes t.0
-        ≡ type_text (named_module names.now) (shared_tree types.now.declared)) }
-    ensures current { IfOk result (λ t. option_map rc_str_bytes t.1
-        ≡ option_map (type_text (named_module names.now)) (option_map shared_tree types.now.current)) }
-    ensures named { OnOk result (HaveTexts (named_module names.now) known.new) }
-{
-    let declared = shared_text(known, alloc, names, &types.declared)?;
-    let current = match &types.current {
-        None => None,
-        Some(ty) => Some(shared_text(known, alloc, names, ty)?),
-    };
-    Ok((declared, current))
-}
-
-/// Returns the flows of a map in the order of their places, with the texts of their types.
-fn texts_of(
-    alloc: Global,
-    names: &ClassNames<'_>,
-    flows: &BTreeMap<Place, &NotedFlow>,
-) -> Result<Vec<(Place, RcStr, RcStr)>, OutOfMemory>
-    requires { HasGivenFlows flows.now }
-    ensures { IfOk result (λ v. (code : RustCode) (notes : List Note) → HasFirstFlows code notes flows.now
-        → AreFlowTexts (named_module names.now) code notes v.items) }
-{
-    let mut known = BTreeMap::new(alloc);
-    let mut texts = Vec::with_capacity(alloc, flows.len())?;
-    for entry in flows.iter() {
-        let (place, flow) = entry;
-        let from = shared_text(&mut known, alloc, names, &flow.from)?;
-        let into = shared_text(&mut known, alloc, names, &flow.into)?;
-        texts.push((*place, from, into))?;
-    }
-    Ok(texts)
 }

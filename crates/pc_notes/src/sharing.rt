@@ -1,20 +1,26 @@
 //! Noted types; equal types are shared.
 
-ghost use Rattle.std.specs.Prelude.{◌≡◌, IfOk, OnOk};
+ghost use Rattle.std.specs.Prelude.{◌≡◌, IfOk, IsTrue, OnOk};
 ghost use Rattle.std.specs.Rc.{rc_str_bytes};
-ghost use Rattle.pc_types.specs.Boxed.{IsGiven};
+ghost use Rattle.pc_types.specs.Boxed.{IsGiven, tree_of};
 ghost use Rattle.pc_annotations.specs.Named.{named_module};
 ghost use Rattle.pc_annotations.specs.Text.{type_text};
 ghost use Rattle.pc_notes.specs.Notes.{IsGivenType, shared_tree};
 ghost use Rattle.pc_notes.specs.Texts.{HaveTexts};
 
 use pc_annotations::{ClassNames, named_text};
-use pc_intern::is_alike;
 use pc_source::OutOfMemory;
-use pc_types::{BoxStore, BoxType, TypeStore};
+use pc_types::{BoxStore, BoxType, TypeStore, is_same};
 use std::alloc::Global;
 use std::collections::BTreeMap;
 use std::rc::{Rc, RcStr};
+
+/// Returns true only if two types are equal, as the proofs about shared types use it.
+fn is_equal_type(s: &BoxType, t: &BoxType) -> bool
+    ensures { IsTrue result → tree_of s.now ≡ tree_of t.now }
+{
+    is_same(s, t)
+}
 
 /// A noted type, and the mark that its store gave it, by which equal ones are found. Notes share it.
 #[derive(Drop)]
@@ -51,7 +57,7 @@ impl SharedTypes {
         let mark = store.mark(ty);
         let tree = store.boxed(ty);
         if let Some(known) = self.known.get(&mark) {
-            if is_alike(&known.ty, tree) {
+            if is_equal_type(&known.ty, tree) {
                 return Ok(known.clone()?);
             }
         }
@@ -82,7 +88,7 @@ pub(crate) fn shared_text(
     ensures named { OnOk result (HaveTexts (named_module names.now) known.new) }
 {
     if let Some(named) = known.get(&shared.mark) {
-        if is_alike(&named.shared.ty, &shared.ty) {
+        if is_equal_type(&named.shared.ty, &shared.ty) {
             return Ok(named.text.clone()?);
         }
     }

@@ -69,7 +69,7 @@ pub(crate) fn field_types<S: TypeStore>(
 }
 
 /// The label of an attribute where nothing is found, of the types that it has on the members: their join.
-pub(crate) fn label_of_fields<S: TypeStore>(
+pub(crate) fn fields_label<S: TypeStore>(
     store: &mut S,
     alloc: Global,
     parents: &Parents,

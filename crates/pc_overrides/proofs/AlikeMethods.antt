@@ -8,7 +8,7 @@ use Rattle.pc_class.specs.declared.table.Parameter.{Parameter as RustParameter}
 use Rattle.pc_class.specs.Facts.{Method}
 use Rattle.pc_class.specs.OverrideFindings.{override_code}
 use Rattle.pc_class.specs.Tables.{parameter_with, parameters_with}
-use Rattle.pc_overrides.specs.Internal.Standing.{AreAlike}
+use Rattle.pc_overrides.specs.Internal.Representing.{AreAlike}
 
 module _ {Ty : Type 0} (tree : Ty → Tree) where
   -- two parameters with the same name, type and default

@@ -21,7 +21,7 @@ use Rattle.pc_overrides.specs.declared.overriding.Demand.{Demand}
 use Rattle.pc_overrides.specs.declared.overriding.Relation.{Relation}
 use Rattle.pc_overrides.specs.declared.overriding.Relation.TheVariants as relations
 use Rattle.pc_overrides.specs.Internal.OverrideTests.{overrides_by, meets_demand}
-use Rattle.pc_overrides.specs.Internal.Standing.{IsOneMore, AreWith, IsEnough, AreListed}
+use Rattle.pc_overrides.specs.Internal.Representing.{IsOneMore, AreWith, IsEnough, AreListed}
 
 -- ---- tests of all
 

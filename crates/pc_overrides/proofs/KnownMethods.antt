@@ -17,7 +17,7 @@ use Rattle.pc_class.specs.Tables.{method_with, IsMethod}
 use Rattle.pc_overrides.specs.declared.known.Judging.{Judging}
 use Rattle.pc_overrides.specs.declared.known.Judged.{Judged}
 use Rattle.pc_overrides.specs.Internal.OverrideTests.{module_judged, methods_above}
-use Rattle.pc_overrides.specs.Internal.Standing.{StandIn, IsKnown, AreKnown}
+use Rattle.pc_overrides.specs.Internal.Representing.{Represent, IsKnown, AreKnown}
 
 one_own_more : {X : Type 0} (xs : List X) (x : X) (d : ℕ) (y : X) → slice_get (xs ++ x ∷ []) d ≡ Some y
     → (slice_get xs d ≡ Some y) ⊎ ((d ≡ length xs) × (x ≡ y))
@@ -38,10 +38,10 @@ module _ {Ty : Type 0} (tree : Ty → Tree) (s : Judging Ty) where
   -- the method known for one that is looked up
   pub known_of : (o : Option (Bor (Judged Ty))) (x : RustMethod Ty)
       → IfSome o (λ k. IsKnown tree s x.owner k.now × (string_bytes k.now.method.now.name ≡ string_bytes x.name))
-      → IfSome o (λ k. StandIn tree s (string_bytes x.name) (overridden (methods_above s (Some x.owner))
+      → IfSome o (λ k. Represent tree s (string_bytes x.name) (overridden (methods_above s (Some x.owner))
       (string_bytes x.name)) k.now.demands.items k.now.rest)
   known_of None x h = tt
-  known_of (Some k) x h = subst (λ name. StandIn tree s name (overridden (methods_above s (Some x.owner)) name)
+  known_of (Some k) x h = subst (λ name. Represent tree s name (overridden (methods_above s (Some x.owner)) name)
       k.now.demands.items k.now.rest) h.1 h.0.known
 
   -- one method more of a class
@@ -51,7 +51,7 @@ module _ {Ty : Type 0} (tree : Ty → Tree) (s : Judging Ty) where
       (method_with tree x)
       → overridden (methods_above s (Some c)) (string_bytes x.name)
       ≡ method_with tree x ∷ overridden (methods_above s base) (string_bytes x.name)
-      → StandIn tree s (string_bytes x.name)
+      → Represent tree s (string_bytes x.name)
       (method_with tree x ∷ overridden (methods_above s base) (string_bytes x.name)) k.demands.items k.rest
       → All (IsKnown tree s c) own → All (IsKnown tree s c) (own ++ k ∷ [])
   known_more c base own k x at e is code first h before =
@@ -62,9 +62,9 @@ module _ {Ty : Type 0} (tree : Ty → Tree) (s : Judging Ty) where
             (method_with tree y)) (sym e)
             (subst (λ o. k.code ≡ override_code (bases_of (module_judged s))
             (overridden (methods_above s o) (string_bytes x.name)) (method_with tree x)) at code);
-        known = subst (λ (y : RustMethod Ty). StandIn tree s (string_bytes y.name)
+        known = subst (λ (y : RustMethod Ty). Represent tree s (string_bytes y.name)
             (overridden (methods_above s (Some c)) (string_bytes y.name)) k.demands.items k.rest) (sym e)
-            (subst (λ (olds : List Method). StandIn tree s (string_bytes x.name) olds k.demands.items k.rest)
+            (subst (λ (olds : List Method). Represent tree s (string_bytes x.name) olds k.demands.items k.rest)
             (sym first) h);
       }) (All-nil (IsKnown tree s c)))
 

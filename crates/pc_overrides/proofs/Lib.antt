@@ -7,5 +7,5 @@ pub mod Overridden
 pub mod OverrideWalk
 pub mod Parts
 pub mod PlainTypes
-pub mod SettledTypes
-pub mod StandIns
+pub mod SubsumedTypes
+pub mod ImpliedDemands

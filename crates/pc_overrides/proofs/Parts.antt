@@ -18,7 +18,7 @@ use Rattle.pc_class.specs.Tables.{parameter_with, parameters_with, method_with}
 use Rattle.pc_overrides.specs.declared.overriding.Relation.{Relation}
 use Rattle.pc_overrides.specs.Internal.OverrideTests.{flow_fits, overrides_by, parameter_suits, parameter_meets}
 use Rattle.pc_overrides.specs.Internal.OverrideTests.{part_meets, meets}
-use Rattle.pc_overrides.specs.Internal.Standing.{Settles, ParameterSettles, PartSettles}
+use Rattle.pc_overrides.specs.Internal.Representing.{TypeSubsumes, ParameterSubsumes, PartSubsumes}
 
 -- ---- two parameters
 
@@ -164,14 +164,14 @@ module _ {Ty : Type 0} (tree : Ty → Tree) where
   there xs k x less is = slice_get-map (parameter_with tree) xs k
       ∙ ap (option_map (parameter_with tree)) (slice_get_read xs (length xs) k x refl less is)
 
-  -- the types of two parameters settle each other at their part
-  pub settles_there : (new old : RustMethod Ty) (number : ℕ) (x y : RustParameter Ty) → number < length old.params
+  -- where the type of a parameter subsumes that of another, the methods do so at their part
+  pub subsumes_there : (new old : RustMethod Ty) (number : ℕ) (x y : RustParameter Ty) → number < length old.params
       → number < length new.params → x ≡ get_or old.params number x → y ≡ get_or new.params number y
-      → Settles (tree y.ty) (tree x.ty) → PartSettles (method_with tree new) (method_with tree old) (suc number)
-  settles_there new old number x y less less_new f g s =
-      subst (λ o. ParameterSettles o (slice_get (parameters_with tree old.params) number))
+      → TypeSubsumes (tree y.ty) (tree x.ty) → PartSubsumes (method_with tree new) (method_with tree old) (suc number)
+  subsumes_there new old number x y less less_new f g s =
+      subst (λ o. ParameterSubsumes o (slice_get (parameters_with tree old.params) number))
       (sym (there new.params number y less_new g))
-      (subst (ParameterSettles (Some (parameter_with tree y))) (sym (there old.params number x less f)) s)
+      (subst (ParameterSubsumes (Some (parameter_with tree y))) (sym (there old.params number x less f)) s)
 
   module _ (relation : Relation) (bases : Bases) (new : Method) (old : RustMethod Ty) where
     -- meeting what it asks at as many parts as it has is overriding it

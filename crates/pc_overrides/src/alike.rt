@@ -3,7 +3,7 @@
 ghost use Rattle.std.specs.Prelude.{◌≡◌, IfOk, IsTrue, true};
 ghost use Rattle.pc_class.specs.Parts.{parameter_name};
 ghost use Rattle.pc_class.specs.Tables.{HasMethod, method_with};
-ghost use Rattle.pc_overrides.specs.Internal.Standing.{AreAlike};
+ghost use Rattle.pc_overrides.specs.Internal.Representing.{AreAlike};
 
 use pc_class::{Method, Parameter};
 use pc_flow::is_same_type;

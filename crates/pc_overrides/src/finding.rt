@@ -12,11 +12,11 @@ ghost use Rattle.pc_class.specs.OverrideFindings.{override_findings};
 ghost use Rattle.pc_class.specs.Parts.{bases_in};
 ghost use Rattle.pc_class.specs.Tables.{HasEntries, IsMethod, method_with, classes_with};
 ghost use Rattle.pc_overrides.specs.Internal.OverrideTests.{IsJudging, module_judged, methods_above};
-ghost use Rattle.pc_overrides.specs.Internal.Standing.{StandIn, IsKnown, AreKnown};
+ghost use Rattle.pc_overrides.specs.Internal.Representing.{Represent, IsKnown, AreKnown};
 
 use crate::judging::code_among;
 use crate::known::{Judged, Judging, all_above};
-use crate::standing::judged_with;
+use crate::representing::judged_with;
 use pc_class::{ClassTable, Method};
 use pc_source::{OutOfMemory, Place};
 use pc_tree::{Code, Finding, Findings, Module};
@@ -56,7 +56,7 @@ fn find_override<'t, S: TypeStore>(
     ensures code { IfOk result (λ k. k.code ≡ override_code (bases_of (module_judged judging.now))
         (overridden (methods_above judging.now base) (method_with S.tree method.now).name)
         (method_with S.tree method.now)) }
-    ensures known { IfOk result (λ k. StandIn S.tree judging.now (method_with S.tree method.now).name
+    ensures known { IfOk result (λ k. Represent S.tree judging.now (method_with S.tree method.now).name
         (method_with S.tree method.now
         ∷ overridden (methods_above judging.now base) (method_with S.tree method.now).name) k.demands.items k.rest) }
     ensures kept { KeepsTypes S.has store.old store.new }

@@ -11,7 +11,7 @@ ghost use Rattle.pc_class.specs.Parts.{bases_in};
 ghost use Rattle.pc_class.specs.Tables.{HasMethod, HasEntries, IsMethod, method_with};
 ghost use Rattle.pc_overrides.specs.declared.overriding.Relation.TheVariants.{Static, Assignable};
 ghost use Rattle.pc_overrides.specs.Internal.OverrideTests.{meets_demand, IsJudging, module_judged, methods_above};
-ghost use Rattle.pc_overrides.specs.Internal.Standing.{static_where, AreListed, StandIn, AreKnown};
+ghost use Rattle.pc_overrides.specs.Internal.Representing.{static_where, AreListed, Represent, AreKnown};
 
 use crate::alike::is_alike;
 use crate::known::{Above, Judged, Judging, judged_at};
@@ -154,7 +154,7 @@ pub(crate) fn code_among<S: TypeStore>(
     requires table { HasEntries (S.has store.old) judging.now.classes.now }
     requires judged { AreKnown S.tree judging.now judged.now }
     requires method { IsMethod judging.now.classes.now method.now }
-    requires above { StandIn S.tree judging.now (method_with S.tree method.now).name
+    requires above { Represent S.tree judging.now (method_with S.tree method.now).name
         (overridden (methods_above judging.now above.now.base) (method_with S.tree method.now).name)
         above.now.demands.now above.now.rest }
     ensures value { IfOk result (λ code. code ≡ override_code (bases_of (module_judged judging.now))

@@ -5,7 +5,7 @@ ghost use Rattle.pc_types.specs.Tree.{Tree};
 ghost use Rattle.pc_class.specs.Overrides.{overridden};
 ghost use Rattle.pc_overrides.specs.declared.known.Judging.{Judging as JudgingOf};
 ghost use Rattle.pc_overrides.specs.Internal.OverrideTests.{IsJudging, methods_above};
-ghost use Rattle.pc_overrides.specs.Internal.Standing.{StandIn, IsKnown, AreKnown};
+ghost use Rattle.pc_overrides.specs.Internal.Representing.{Represent, IsKnown, AreKnown};
 
 use crate::overriding::Demand;
 use pc_class::{ClassTable, Method};
@@ -85,7 +85,7 @@ fn nearest_judged<'j, 't, Ty: Drop>(
 ) -> Option<&'j Judged<'t, Ty>>
     ensures { (tree : Ty → Tree) → IsJudging tree judging.now
         → AreKnown tree judging.now judged.now
-        → IfSome result (λ k. StandIn tree judging.now name.now
+        → IfSome result (λ k. Represent tree judging.now name.now
         (overridden (methods_above judging.now base) name.now) k.now.demands.items k.now.rest) }
 {
     match base {
@@ -107,7 +107,7 @@ pub(crate) fn all_above<'j, 't, Ty: Drop>(
     ensures base { result.base ≡ base }
     ensures known { (tree : Ty → Tree) → IsJudging tree judging.now
         → AreKnown tree judging.now judged.now
-        → StandIn tree judging.now name.now
+        → Represent tree judging.now name.now
         (overridden (methods_above judging.now base) name.now) result.demands.now result.rest }
 {
     match nearest_judged(judging, judged, base, name) {

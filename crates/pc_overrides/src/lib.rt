@@ -6,7 +6,7 @@ mod finding;
 mod judging;
 mod known;
 mod overriding;
-mod standing;
+mod representing;
 mod subsuming;
 
 pub use finding::override_findings;

@@ -1,9 +1,9 @@
-//! Types that settle others: whatever is good against the one is good against the other.
+//! Types that subsume others: whatever is good against the one is good against the other.
 
 ghost use Rattle.std.specs.Prelude.{◌≡◌, IfOk, true};
 ghost use Rattle.pc_types.specs.Assignable.{IsPlain};
 ghost use Rattle.pc_class.specs.Tables.{HasMethod, method_with};
-ghost use Rattle.pc_overrides.specs.Internal.Standing.{Settles, PartSettles};
+ghost use Rattle.pc_overrides.specs.Internal.Representing.{TypeSubsumes, PartSubsumes};
 
 use pc_class::Method;
 use pc_flow::is_same_type;
@@ -33,7 +33,7 @@ fn is_plain<S: TypeStore>(store: &S, alloc: Global, ty: &S::Ty) -> Result<bool, 
     Ok(true)
 }
 
-/// Returns true only if a type settles another: it has no `Any`, it is the same, or the other is `Any`.
+/// Returns true only if a type subsumes another: it has no `Any`, it is the same, or the other is `Any`.
 fn subsumes<S: TypeStore>(
     store: &S,
     alloc: Global,
@@ -42,7 +42,7 @@ fn subsumes<S: TypeStore>(
 ) -> Result<bool, OutOfMemory>
     requires new { S.has store.now new.now }
     requires old { S.has store.now old.now }
-    ensures { IfOk result (λ settled. settled ≡ true → Settles (S.tree new.now) (S.tree old.now)) }
+    ensures { IfOk result (λ subsumed. subsumed ≡ true → TypeSubsumes (S.tree new.now) (S.tree old.now)) }
 {
     if store.head(old) == Head::Any {
         return Ok(true);
@@ -54,7 +54,7 @@ fn subsumes<S: TypeStore>(
     Ok(same)
 }
 
-/// Returns true only if the type of a method at a part settles that of another method at this part.
+/// Returns true only if the type of a method at a part subsumes that of another method at this part.
 pub(crate) fn subsumes_at<S: TypeStore>(
     store: &S,
     alloc: Global,
@@ -64,8 +64,8 @@ pub(crate) fn subsumes_at<S: TypeStore>(
 ) -> Result<bool, OutOfMemory>
     requires new { HasMethod (S.has store.now) new.now }
     requires old { HasMethod (S.has store.now) old.now }
-    ensures { IfOk result (λ settled. settled ≡ true
-        → PartSettles (method_with S.tree new.now) (method_with S.tree old.now) part) }
+    ensures { IfOk result (λ subsumed. subsumed ≡ true
+        → PartSubsumes (method_with S.tree new.now) (method_with S.tree old.now) part) }
 {
     if part == 0 {
         return subsumes(store, alloc, &new.ret, &old.ret);
@@ -78,6 +78,6 @@ pub(crate) fn subsumes_at<S: TypeStore>(
     }
     let into = &takes[number];
     let from = &taken[number];
-    let settled = subsumes(store, alloc, &into.ty, &from.ty)?;
-    Ok(settled)
+    let subsumed = subsumes(store, alloc, &into.ty, &from.ty)?;
+    Ok(subsumed)
 }

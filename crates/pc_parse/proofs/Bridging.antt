@@ -16,7 +16,7 @@ use Rattle.pc_tree.specs.Tree.{Module, module_of}
 use Rattle.pc_tree.specs.Depth.{too_deep_at}
 use Rattle.pc_grammar.specs.Grammar.{last_place}
 use Rattle.pc_grammar.specs.Faults.{IsModule, IsRefusal}
-use Rattle.pc_grammar.specs.Machine.{Reading, at, Outcome, reads, refuses, short, step, stop, read_tokens}
+use Rattle.pc_grammar.specs.Machine.{Reading, at, ReadOutcome, reads, refuses, short, step, stop, read_tokens}
 use Rattle.pc_grammar.specs.Machine.Lines.{start}
 use Rattle.pc_grammar.proofs.Sound.{reads_spells}
 use Rattle.pc_grammar.proofs.Front.{misfit, ends_early}
@@ -47,10 +47,10 @@ end_is : (ts : List Lexeme) → end_of 0 ts ≡ (last_place ts).end
 end_is [] = refl
 end_is (t ∷ ts) = last_end t ts
 
-settled_ok : (end : ℕ) (x : Outcome) (m : Module) → answer_for end x ≡ Ok m → x ≡ reads m
-settled_ok end (reads n) m e = let q : n ≡ m = cc in ap reads q
-settled_ok end (refuses byte) m e = cc
-settled_ok end short m e = cc
+answered_ok : (end : ℕ) (x : ReadOutcome) (m : Module) → answer_for end x ≡ Ok m → x ≡ reads m
+answered_ok end (reads n) m e = let q : n ≡ m = cc in ap reads q
+answered_ok end (refuses byte) m e = cc
+answered_ok end short m e = cc
 
 -- the fault of an answer, or else this one
 abbrev fault_in : Fault → Result Module Fault → Fault
@@ -58,15 +58,15 @@ fault_in e (Ok m) = e
 fault_in e (Err f) = f
 
 -- the answer for an outcome that is no module
-abbrev Unread : ℕ → Outcome → Fault → Type 0
+abbrev Unread : ℕ → ReadOutcome → Fault → Type 0
 Unread end x e = ((byte : ℕ) × (x ≡ refuses byte) × (e ≡ fault.Refused (record { code = code.G1; byte = byte })))
     ⊎ ((x ≡ short) × (e ≡ fault.Refused (record { code = code.G1; byte = end })))
 
-settled_err : (end : ℕ) (x : Outcome) (e : Fault) → answer_for end x ≡ Err e → Unread end x e
-settled_err end (reads n) e q = cc
-settled_err end (refuses byte) e q = let h : fault.Refused (record { code = code.G1; byte = byte }) ≡ e = cc in
+answered_err : (end : ℕ) (x : ReadOutcome) (e : Fault) → answer_for end x ≡ Err e → Unread end x e
+answered_err end (reads n) e q = cc
+answered_err end (refuses byte) e q = let h : fault.Refused (record { code = code.G1; byte = byte }) ≡ e = cc in
     inl (byte, refl, sym h)
-settled_err end short e q = let h : fault.Refused (record { code = code.G1; byte = end }) ≡ e = cc in inr (refl, sym h)
+answered_err end short e q = let h : fault.Refused (record { code = code.G1; byte = end }) ≡ e = cc in inr (refl, sym h)
 
 module _ {X : Type 0} (text : X → List ℕ) where
   -- items that lead to a module are tokens
@@ -81,7 +81,7 @@ module _ {X : Type 0} (text : X → List ℕ) where
     tokens = [];
     all = refl;
     run_is = run_over r
-        ∙ settled_ok end (stop r) m (sym (run_end text end r) ∙ e);
+        ∙ answered_ok end (stop r) m (sym (run_end text end r) ∙ e);
   }
   came_whole (Ok t ∷ xs) end r m e = let w = came_whole xs t.place.end (step r (lexeme text t)) m
       (sym (run_token text end r t xs) ∙ e) in
@@ -111,7 +111,7 @@ module _ {X : Type 0} (text : X → List ℕ) where
           tokens = [];
           all = refl;
           unread = subst (λ z. Unread end z e) (sym (run_over r))
-              (settled_err end (stop r) e (sym (run_end text end r) ∙ q));
+              (answered_err end (stop r) e (sym (run_end text end r) ∙ q));
         })
     came_fault (Ok t ∷ xs) it end r e c q = more (came_fault xs c.0 t.place.end (step r (lexeme text t)) e c.2
         (sym (run_token text end r t xs) ∙ q))

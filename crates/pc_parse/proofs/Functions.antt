@@ -25,7 +25,7 @@ use Rattle.pc_grammar.specs.Machine.States.{AnnotationPosition, of_return, State
 use Rattle.pc_grammar.specs.Machine.States.{params_read, Transition, stuck, on}
 use Rattle.pc_grammar.specs.Machine.Finishing.{suite_of}
 use Rattle.pc_grammar.specs.Machine.Lines.{params_of}
-use Rattle.pc_grammar.specs.Fronts.Lines.{is_method}
+use Rattle.pc_grammar.specs.Fronts.Lines.{is_in_class}
 use Rattle.pc_reader.specs.declared.reader.Reader.{Reader}
 use Rattle.pc_reader.specs.Reading.{Blames, IsAhead, lexeme, Came, Onward, Takes, NeedsKind}
 use Rattle.pc_reader.specs.Internal.Expressions.{GivesName}
@@ -70,7 +70,7 @@ module _ {X I : Type 0} {text : X → List ℕ} where
 module _ {X I : Type 0} {texts : TextOf X} {source : TokensOf I (Result (Token X) Fault)} where
   opens : {a b : Reader X I} {t : Token X} → Takes texts source a b t
       → t.kind ≡ kind.Operator sign.LeftParenthesis → (owner : FunctionOwner) (d : DefStart)
-      → Onward texts.text source.next_gives a b (at (params_of owner d)) (at (begun (is_method owner) d))
+      → Onward texts.text source.next_gives a b (at (params_of owner d)) (at (begun (is_in_class owner) d))
   opens h k (of_module top) d = kind_read (kind.Operator sign.LeftParenthesis) h k [] (param_due d [])
   opens h k (of_class c ms) d = kind_read (kind.Operator sign.LeftParenthesis) h k (a_form (codes "self") ∷ [])
       (self_read d)
@@ -160,9 +160,9 @@ module _ {X I : Type 0} {texts : TextOf X} {source : TokensOf I (Result (Token X
 
   pub signature_fails : (a : Parser X I) (method : Bool) {m : Reader X I} {name : RustName} {e : Fault}
       → GivesName texts source a.reader m name
-      → Blames e (λ o. (owner : FunctionOwner) (d : DefStart) → is_method owner ≡ method
+      → Blames e (λ o. (owner : FunctionOwner) (d : DefStart) → is_in_class owner ≡ method
       → Came texts.text source.next_gives m (at (params_of owner d)) o)
-      → Blames e (λ o. (owner : FunctionOwner) (first : Place) → is_method owner ≡ method
+      → Blames e (λ o. (owner : FunctionOwner) (first : Place) → is_in_class owner ≡ method
       → Came texts.text source.next_gives a.reader (at (def_due owner first)) o)
   signature_fails a method n w = blame (λ o u. λ owner first i. let d : DefStart =
       record { owner = owner; first = first; name = name_of_token (lexeme texts.text n.token) } in
@@ -173,7 +173,7 @@ module _ {X I : Type 0} {texts : TextOf X} {source : TokensOf I (Result (Token X
   module _ (a : Parser X I) {p q : Parser X I} {name : RustName} {method : Bool} {v : Vec RustParam Global}
       (n : GivesName texts source a.reader p.reader name) (same : p.deep ≡ a.deep)
       (x : GivesSignature texts source method p q v) where
-    to_params : (owner : FunctionOwner) (first : Place) → is_method owner ≡ method
+    to_params : (owner : FunctionOwner) (first : Place) → is_in_class owner ≡ method
         → Onward texts.text source.next_gives a.reader q.reader (at (def_due owner first))
         (at (params_read (record { owner = owner; first = first; name = name_of_token (lexeme texts.text n.token) })
         x.params))
@@ -197,7 +197,7 @@ module _ {X I : Type 0} {texts : TextOf X} {source : TokensOf I (Result (Token X
         (other : TokenKind → Transition)
         → StandsBefore texts.text q.reader st (opens_ann sign.Arrow c other)
         → Came texts.text source.next_gives q.reader (at st) o)
-        → Blames e (λ o. (owner : FunctionOwner) (first : Place) → is_method owner ≡ method
+        → Blames e (λ o. (owner : FunctionOwner) (first : Place) → is_in_class owner ≡ method
         → Came texts.text source.next_gives a.reader (at (def_due owner first)) o)
     returns_fail w = blame (λ o u. λ owner first m. let d : DefStart =
         record { owner = owner; first = first; name = name_of_token (lexeme texts.text n.token) } in
@@ -217,7 +217,7 @@ module _ {X I : Type 0} {texts : TextOf X} {source : TokensOf I (Result (Token X
 
       pub colon_fails : {e : Fault} → Blames e (λ o. (st : State) → NeedsKind texts.text (kind.Operator sign.Colon) st
           r.reader → Came texts.text source.next_gives r.reader (at st) o)
-          → Blames e (λ o. (owner : FunctionOwner) (first : Place) → is_method owner ≡ method
+          → Blames e (λ o. (owner : FunctionOwner) (first : Place) → is_in_class owner ≡ method
           → Came texts.text source.next_gives a.reader (at (def_due owner first)) o)
       colon_fails w = blame (λ o u. λ owner first m. let d : DefStart =
           record { owner = owner; first = first; name = name_of_token (lexeme texts.text n.token) } in let y =
@@ -228,7 +228,7 @@ module _ {X I : Type 0} {texts : TextOf X} {source : TokensOf I (Result (Token X
 
       module _ (s : Parser X I) {t : Token X} (h : Takes texts source r.reader s.reader t)
           (k : t.kind ≡ kind.Operator sign.Colon) where
-        to_suite : (owner : FunctionOwner) (first : Place) → is_method owner ≡ method
+        to_suite : (owner : FunctionOwner) (first : Place) → is_in_class owner ≡ method
             → Onward texts.text source.next_gives a.reader s.reader (at (def_due owner first))
             (at
             (suite_of
@@ -251,7 +251,7 @@ module _ {X I : Type 0} {texts : TextOf X} {source : TokensOf I (Result (Token X
         pub suite_fails : {e : Fault} → Blames e (λ o. (block : Block) → Came texts.text source.next_gives s.reader
             (at (suite_of block))
             o)
-            → Blames e (λ o. (owner : FunctionOwner) (first : Place) → is_method owner ≡ method
+            → Blames e (λ o. (owner : FunctionOwner) (first : Place) → is_in_class owner ≡ method
             → Came texts.text source.next_gives a.reader (at (def_due owner first)) o)
         suite_fails w = blame (λ o u. λ owner first m. to_suite owner first m o
             (u

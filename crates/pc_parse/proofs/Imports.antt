@@ -1,4 +1,4 @@
--- Headers, as the machine reads them.
+-- Imports, as the machine reads them.
 use Rattle.std.specs.declared.convert.AsStr.{Ghosts as TextOf}
 use Rattle.std.specs.declared.iter.Iterator.{Ghosts as TokensOf}
 use Rattle.std.proofs.Common.{◌≡◌, ℕ, ◌&&◌, Bool, true, false, List, [], ◌∷◌, Option, Some, Result, refl, arith, ap}

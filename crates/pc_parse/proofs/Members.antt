@@ -251,7 +251,7 @@ module _ {X I : Type 0} {texts : TextOf X} {source : TokensOf I (Result (Token X
   pub method_fails : {a m : Reader X I} {t : Token X} {e : Fault} → Takes texts source a m t
       → t.kind ≡ kind.Keyword word.Def
       → Blames e (λ o. (owner : Rattle.pc_grammar.specs.Machine.States.FunctionOwner) (first : Place)
-      → Rattle.pc_grammar.specs.Fronts.Lines.is_method owner ≡ true
+      → Rattle.pc_grammar.specs.Fronts.Lines.is_in_class owner ≡ true
       → Came texts.text source.next_gives m (at (def_due owner first)) o)
       → Blames e (λ o. (c : ClassStart) (ms : List Member) → GoOn a c ms
       → Came texts.text source.next_gives a (at (members c ms)) o)

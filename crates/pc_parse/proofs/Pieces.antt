@@ -32,7 +32,7 @@ use Rattle.pc_grammar.specs.Machine.States.{items, importing, item_named, decora
 use Rattle.pc_grammar.specs.Machine.States.{Transition, stuck, on}
 use Rattle.pc_grammar.specs.Machine.Finishing.{add_item, at_line_end}
 use Rattle.pc_grammar.specs.Machine.Lines.{due, module_of as module_over}
-use Rattle.pc_grammar.specs.Fronts.Lines.{is_method}
+use Rattle.pc_grammar.specs.Fronts.Lines.{is_in_class}
 use Rattle.pc_reader.specs.declared.operand.Operand.{Operand}
 use Rattle.pc_reader.specs.declared.reader.Reader.{Reader}
 use Rattle.pc_reader.specs.Reading.{Blames, IsAhead, lexeme, Came, Onward, left_in, Takes, NeedsKind}
@@ -282,7 +282,7 @@ module _ {X I : Type 0} {texts : TextOf X} {source : TokensOf I (Result (Token X
   pub function_fails : {a m : Reader X I} {t : Token X} {e : Fault} → Takes texts source a m t
       → t.kind ≡ kind.Keyword word.Def
       → Blames e (λ o. (owner : Rattle.pc_grammar.specs.Machine.States.FunctionOwner) (first : Place)
-      → is_method owner ≡ false
+      → is_in_class owner ≡ false
       → Came texts.text source.next_gives m (at (def_due owner first)) o) → Blames e
       (λ o. (top : Top) → Came texts.text source.next_gives a (at (items after_headers top)) o)
   function_fails {t = t} h k w = blame (λ o u. λ top. step_to (items after_headers top)

@@ -1,6 +1,6 @@
 -- The whole expressions and annotations of tokens within a text begin within it, and so does their refusal.
-use Rattle.std.proofs.Common.{◌≡◌, ℕ, zero, suc, ◌<◌, ◌≤◌, Bool, true, false, if◌then◌else◌, List, [], ◌∷◌, ◌++◌, map}
-use Rattle.std.proofs.Common.{Option, Some, None, Result, Ok, Err, refl, sym, ap, ◌∙◌, subst, inl, inr, arith}
+use Rattle.std.proofs.Common.{◌≡◌, ℕ, zero, suc, ◌≤◌, Bool, true, false, if◌then◌else◌, List, [], ◌∷◌, ◌++◌, map}
+use Rattle.std.proofs.Common.{Option, Some, None, Result, Ok, Err, sym, ap, subst, inl, inr, arith}
 use Rattle.std.specs.Prelude.{nat_lt, ◌⊎◌, IfErr}
 use Rattle.pc_source.specs.declared.place.Place.{Place}
 use Rattle.pc_source.specs.declared.fault.Refusal.{Refusal}
@@ -10,7 +10,6 @@ use Rattle.pc_source.specs.Answers.{OnRefusal}
 use Rattle.pc_source.specs.Stream.{ComesAs, RefusesWithin}
 use Rattle.pc_source.specs.Within.{IsWithin}
 use Rattle.pc_token.specs.declared.token.Token.{Token}
-use Rattle.pc_token.specs.declared.token.Keyword.TheVariants as word
 use Rattle.pc_token.specs.Lexeme.{Lexeme}
 use Rattle.pc_token.specs.Within.{AreWithin}
 use Rattle.pc_tree.specs.Tree.{Name, Expr, name, number, text, truth, nothing, tuple, list, dict, negative, negation}
@@ -23,18 +22,18 @@ use Rattle.pc_tree.specs.Tree.{method_member, Item, constant_item, class_item, d
 use Rattle.pc_tree.specs.Depth.{Whole, depth_limit, place_of, place_of_ann, whole_expr, whole_ann, whole_target}
 use Rattle.pc_tree.specs.Depth.{optional_exprs, optional_anns, wholes_of_stmt, wholes_of_stmts, wholes_of_branches}
 use Rattle.pc_tree.specs.Depth.{wholes_of_params, wholes_of_def, wholes_of_members, wholes_of_item, wholes_of_items}
-use Rattle.pc_tree.specs.Depth.{first_too_deep, too_deep_at}
+use Rattle.pc_tree.specs.Depth.{first_too_deep}
 use Rattle.pc_grammar.specs.Grammar.{Spelling, ◌⟫◌, At, Begins, Maybe, Rest, IsName, AfterComma, first_place}
 use Rattle.pc_grammar.specs.Grammar.{last_place}
 use Rattle.pc_grammar.specs.Grammar.Expressions.{Wrapped, Spells, Expression, SpellsTarget}
 use Rattle.pc_grammar.specs.Grammar.Annotations.{Annotation}
 use Rattle.pc_grammar.specs.Grammar.Statements.{Suite, SpellsStmt, SpellsStmts, SpellsBranches}
-use Rattle.pc_grammar.specs.Grammar.Modules.{SpellsParam, SpellsParams, Parameters, SpellsDef, SpellsMember}
+use Rattle.pc_grammar.specs.Grammar.Modules.{SpellsParam, SpellsParams, Parameters, SpellsDef}
 use Rattle.pc_grammar.specs.Grammar.Modules.{SpellsMembers}
 use Rattle.pc_grammar.specs.Grammar.Modules.{ClassBody, SpellsItem, SpellsItems, SpellsModule}
 use Rattle.pc_grammar.specs.Faults.{IsRefusal, IsMisfit}
 use Rattle.pc_reader.specs.Reading.{lexeme}
-use Rattle.pc_parse.specs.Answering.{IsRead, IsRefusedByTokens, IsFaulty}
+use Rattle.pc_parse.specs.Answering.{IsRefusedByTokens, IsFaulty}
 
 -- ---- parts of a list of tokens
 

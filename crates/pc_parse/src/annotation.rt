@@ -1,5 +1,6 @@
 //! Annotations, by descent, with recursion only at brackets. Each function takes the tokens that it reads, and fails as
-//! `Reader::misfit` does at the first that does not fit, or if an allocation fails.
+//! `Reader::misfit` does at the first that does not fit, or if an allocation fails. As in `statement.rt`, tokens and names
+//! are dropped by name.
 ghost use Rattle.std.specs.Prelude.{◌≡◌, ◌≤◌, MatchResult, IfOk, false};
 ghost use Rattle.pc_source.specs.declared.fault.Fault.TheVariants as fault;
 ghost use Rattle.pc_token.specs.declared.token.TokenKind.TheVariants as kind;
@@ -77,7 +78,11 @@ fn applied(head: Name, arguments: Annotations, place: Place) -> Annotation
         };
     }
     Annotation {
-        ann: Ann::Apply(place, head, arguments.anns),
+        ann: Ann::Apply {
+            place,
+            head,
+            arguments: arguments.anns,
+        },
         place,
         depth,
     }
@@ -130,7 +135,7 @@ fn union<X: AsStr + Drop, I: Iterator<Item = Result<Token<X>, Fault>> + Drop>(
     let start = first.place.start;
     let mut parts = Annotations::new(alloc);
     parts.push(first)?;
-    reader.take()?;
+    drop(reader.take()?);
     loop {
         let part = part(reader, alloc)?;
         let end = part.place.end;
@@ -138,7 +143,7 @@ fn union<X: AsStr + Drop, I: Iterator<Item = Result<Token<X>, Fault>> + Drop>(
         if !reader.sees(TokenKind::Operator(Operator::Bar)) {
             return Ok(united(parts, Place { start, end }));
         }
-        reader.take()?;
+        drop(reader.take()?);
     }
 }
 
@@ -153,14 +158,16 @@ fn part<X: AsStr + Drop, I: Iterator<Item = Result<Token<X>, Fault>> + Drop>(
 {
     if reader.sees(TokenKind::Keyword(Keyword::None)) {
         let none = reader.take()?;
-        return Ok(single(Ann::NoneValue(none.place), none.place));
+        let place = none.place;
+        drop(none);
+        return Ok(single(Ann::NoneValue(place), place));
     }
     let name = reader.name(alloc)?;
     if !reader.sees(TokenKind::Operator(Operator::LeftBracket)) {
         let place = name.place;
         return Ok(single(Ann::Name(name), place));
     }
-    reader.take()?;
+    drop(reader.take()?);
     arguments(reader, alloc, name)
 }
 
@@ -177,12 +184,18 @@ fn arguments<X: AsStr + Drop, I: Iterator<Item = Result<Token<X>, Fault>> + Drop
 {
     let start = head.place.start;
     if reader.sees(TokenKind::Operator(Operator::LeftParenthesis)) {
-        reader.take()?;
+        drop(reader.take()?);
         return no_arguments(reader, head);
     }
     let mut arguments = Annotations::new(alloc);
     loop {
-        let argument = union(reader, alloc)?;
+        let argument = match union(reader, alloc) {
+            Ok(argument) => argument,
+            Err(fault) => {
+                drop(head);
+                return Err(fault);
+            }
+        };
         arguments.push(argument)?;
         if !reader.sees(TokenKind::Operator(Operator::Comma)) {
             let close = reader.expect(TokenKind::Operator(Operator::RightBracket))?;
@@ -190,9 +203,16 @@ fn arguments<X: AsStr + Drop, I: Iterator<Item = Result<Token<X>, Fault>> + Drop
                 start,
                 end: close.place.end,
             };
+            drop(close);
             return Ok(applied(head, arguments, place));
         }
-        reader.take()?;
+        match reader.take() {
+            Ok(comma) => drop(comma),
+            Err(fault) => {
+                drop(head);
+                return Err(fault);
+            }
+        }
     }
 }
 
@@ -205,12 +225,13 @@ fn no_arguments<X: AsStr + Drop, I: Iterator<Item = Result<Token<X>, Fault>> + D
     ensures { ReadsApplied X.AsStr I.Iterator
         (λ n ts parts before s. empty_opened n ts parts before s) reader.old reader.new head result }
 {
-    reader.expect(TokenKind::Operator(Operator::RightParenthesis))?;
+    drop(reader.expect(TokenKind::Operator(Operator::RightParenthesis))?);
     let close = reader.expect(TokenKind::Operator(Operator::RightBracket))?;
     let place = Place {
         start: head.place.start,
         end: close.place.end,
     };
+    drop(close);
     Ok(single(Ann::ApplyEmpty(place, head), place))
 }
 

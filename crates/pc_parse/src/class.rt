@@ -1,4 +1,4 @@
-//! Dataclasses and their members.
+//! Dataclasses and their members. As in `statement.rt`, tokens and annotations are dropped by name.
 ghost use Rattle.std.specs.Prelude.{◌≡◌};
 ghost use Rattle.pc_reader.specs.Reading.{IsReady};
 ghost use Rattle.pc_parse.specs.Internal.Classes.{ReadsBase, ReadsField, ReadsMember, ReadsMembers, ReadsClass};
@@ -27,7 +27,7 @@ fn base<X: AsStr + Drop, I: Iterator<Item = Result<Token<X>, Fault>> + Drop>(
         ])?;
         return Ok(None);
     }
-    reader.take()?;
+    drop(reader.take()?);
     let base = reader.name(alloc)?;
     reader.fixed(&[
         TokenKind::Operator(Operator::RightParenthesis),
@@ -45,15 +45,30 @@ impl<X: AsStr + Drop, I: Iterator<Item = Result<Token<X>, Fault>> + Drop> Parser
         ensures { ReadsField X.AsStr I.Iterator self.old self.new result }
     {
         let name = self.reader.name(alloc)?;
-        self.reader.expect(TokenKind::Operator(Operator::Colon))?;
+        drop(self.reader.expect(TokenKind::Operator(Operator::Colon))?);
         let annotation = self.annotation(alloc)?;
-        let default = self.reader.default(alloc)?;
-        self.reader.expect(TokenKind::Newline)?;
-        Ok(Field {
+        let default = match self.reader.default(alloc) {
+            Ok(default) => default,
+            Err(fault) => {
+                drop(annotation);
+                return Err(fault);
+            }
+        };
+        let field = Field {
             name,
             annotation,
             default,
-        })
+        };
+        match self.reader.expect(TokenKind::Newline) {
+            Ok(end) => {
+                drop(end);
+                Ok(field)
+            }
+            Err(fault) => {
+                drop(field);
+                Err(fault)
+            }
+        }
     }
 
     /// Reads a field or a method.
@@ -62,7 +77,7 @@ impl<X: AsStr + Drop, I: Iterator<Item = Result<Token<X>, Fault>> + Drop> Parser
         ensures { ReadsMember X.AsStr I.Iterator self.old self.new result }
     {
         if self.reader.sees(TokenKind::Keyword(Keyword::Def)) {
-            self.reader.take()?;
+            drop(self.reader.take()?);
             let method = self.function(alloc, true)?;
             return Ok(Member::Method(method));
         }
@@ -88,7 +103,7 @@ impl<X: AsStr + Drop, I: Iterator<Item = Result<Token<X>, Fault>> + Drop> Parser
             let member = self.member(alloc)?;
             put_last(&mut members, member)?;
             if self.reader.sees(TokenKind::Dedent) {
-                self.reader.take()?;
+                drop(self.reader.take()?);
                 return Ok(members);
             }
         }
@@ -100,13 +115,15 @@ impl<X: AsStr + Drop, I: Iterator<Item = Result<Token<X>, Fault>> + Drop> Parser
         ensures { ReadsClass X.AsStr I.Iterator self.old self.new result }
     {
         let word = self.reader.expect_name("dataclass")?;
+        let decorator = word.place;
+        drop(word);
         self.reader
             .fixed(&[TokenKind::Newline, TokenKind::Keyword(Keyword::Class)])?;
         let name = self.reader.name(alloc)?;
         let base = base(&mut self.reader, alloc)?;
         let members = self.members(alloc)?;
         Ok(ClassDef {
-            decorator: word.place,
+            decorator,
             name,
             base,
             members,

@@ -1,4 +1,4 @@
-//! Functions and methods.
+//! Functions and methods. As in `statement.rt`, tokens and annotations are dropped by name.
 ghost use Rattle.std.specs.Prelude.{◌≡◌};
 ghost use Rattle.pc_reader.specs.Reading.{IsReady};
 ghost use Rattle.pc_parse.specs.Internal.Signatures.{ReadsMethodParams, ReadsSignature, ReadsFunction};
@@ -16,13 +16,15 @@ impl<X: AsStr + Drop, I: Iterator<Item = Result<Token<X>, Fault>> + Drop> Parser
         requires { IsReady I.can_next I.remaining self.old.reader }
         ensures { ReadsMethodParams X.AsStr I.Iterator self.old self.new result }
     {
-        self.reader.expect_name("self")?;
+        drop(self.reader.expect_name("self")?);
         if self.reader.sees(TokenKind::Operator(Operator::Comma)) {
-            self.reader.take()?;
+            drop(self.reader.take()?);
             return self.parameters(alloc);
         }
-        self.reader
-            .expect(TokenKind::Operator(Operator::RightParenthesis))?;
+        drop(
+            self.reader
+                .expect(TokenKind::Operator(Operator::RightParenthesis))?,
+        );
         Ok(Vec::new(alloc))
     }
 
@@ -31,8 +33,10 @@ impl<X: AsStr + Drop, I: Iterator<Item = Result<Token<X>, Fault>> + Drop> Parser
         requires { IsReady I.can_next I.remaining self.old.reader }
         ensures { ReadsSignature X.AsStr I.Iterator method self.old self.new result }
     {
-        self.reader
-            .expect(TokenKind::Operator(Operator::LeftParenthesis))?;
+        drop(
+            self.reader
+                .expect(TokenKind::Operator(Operator::LeftParenthesis))?,
+        );
         if method {
             return self.parameters_of_method(alloc);
         }
@@ -47,8 +51,20 @@ impl<X: AsStr + Drop, I: Iterator<Item = Result<Token<X>, Fault>> + Drop> Parser
         let name = self.reader.name(alloc)?;
         let params = self.signature(alloc, method)?;
         let returns = self.annotation_behind(alloc, Operator::Arrow)?;
-        self.reader.expect(TokenKind::Operator(Operator::Colon))?;
-        let body = self.suite(alloc)?;
+        match self.reader.expect(TokenKind::Operator(Operator::Colon)) {
+            Ok(colon) => drop(colon),
+            Err(fault) => {
+                drop(returns);
+                return Err(fault);
+            }
+        }
+        let body = match self.suite(alloc) {
+            Ok(body) => body,
+            Err(fault) => {
+                drop(returns);
+                return Err(fault);
+            }
+        };
         Ok(FuncDef {
             name,
             params,

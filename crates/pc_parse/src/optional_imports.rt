@@ -1,4 +1,4 @@
-//! The headers of a module.
+//! The headers of a module. As in `statement.rt`, tokens are dropped by name.
 ghost use Rattle.std.specs.Prelude.{◌≡◌};
 ghost use Rattle.pc_reader.specs.Reading.{IsReady};
 ghost use Rattle.pc_reader.specs.Internal.FixedWords.{ReadsFixed};
@@ -26,10 +26,10 @@ fn imports<X: AsStr + Drop, I: Iterator<Item = Result<Token<X>, Fault>> + Drop>(
     ensures { ReadsFixed X.AsStr I.Iterator
         (import_words source.now imported.now) reader.old reader.new result }
 {
-    reader.expect_name(source)?;
-    reader.expect(TokenKind::Keyword(Keyword::Import))?;
-    reader.expect_name(imported)?;
-    reader.expect(TokenKind::Newline)?;
+    drop(reader.expect_name(source)?);
+    drop(reader.expect(TokenKind::Keyword(Keyword::Import))?);
+    drop(reader.expect_name(imported)?);
+    drop(reader.expect(TokenKind::Newline)?);
     Ok(())
 }
 
@@ -40,7 +40,7 @@ pub(crate) fn read_headers<X: AsStr + Drop, I: Iterator<Item = Result<Token<X>, 
     requires { IsReady I.can_next I.remaining reader.old }
     ensures { ReadsHeaders X.AsStr I.Iterator reader.old reader.new result }
 {
-    reader.expect(TokenKind::Keyword(Keyword::From))?;
+    drop(reader.expect(TokenKind::Keyword(Keyword::From))?);
     imports(reader, "__future__", "annotations")?;
     if !reader.sees(TokenKind::Keyword(Keyword::From)) {
         return Ok(OptionalImports {
@@ -48,7 +48,7 @@ pub(crate) fn read_headers<X: AsStr + Drop, I: Iterator<Item = Result<Token<X>, 
             any: false,
         });
     }
-    reader.take()?;
+    drop(reader.take()?);
     if !reader.sees_name("dataclasses") {
         imports(reader, "typing", "Any")?;
         return Ok(OptionalImports {
@@ -63,7 +63,7 @@ pub(crate) fn read_headers<X: AsStr + Drop, I: Iterator<Item = Result<Token<X>, 
             any: false,
         });
     }
-    reader.take()?;
+    drop(reader.take()?);
     imports(reader, "typing", "Any")?;
     Ok(OptionalImports {
         dataclass: true,

@@ -1,4 +1,4 @@
-//! Parameters: names with their annotations and defaults.
+//! Parameters: names with their annotations and defaults. As in `statement.rt`, tokens and annotations are dropped by name.
 ghost use Rattle.std.specs.Prelude.{◌≡◌};
 ghost use Rattle.pc_reader.specs.Reading.{IsReady};
 ghost use Rattle.pc_parse.specs.Internal.Signatures.{ReadsOpened, ReadsParam, ReadsParams};
@@ -23,7 +23,7 @@ impl<X: AsStr + Drop, I: Iterator<Item = Result<Token<X>, Fault>> + Drop> Parser
         if !self.reader.sees(TokenKind::Operator(opener)) {
             return Ok(None);
         }
-        self.reader.take()?;
+        drop(self.reader.take()?);
         let annotation = self.annotation(alloc)?;
         Ok(Some(annotation))
     }
@@ -35,7 +35,13 @@ impl<X: AsStr + Drop, I: Iterator<Item = Result<Token<X>, Fault>> + Drop> Parser
     {
         let name = self.reader.name(alloc)?;
         let annotation = self.annotation_behind(alloc, Operator::Colon)?;
-        let default = self.reader.default(alloc)?;
+        let default = match self.reader.default(alloc) {
+            Ok(default) => default,
+            Err(fault) => {
+                drop(annotation);
+                return Err(fault);
+            }
+        };
         Ok(Param {
             name,
             annotation,
@@ -54,17 +60,19 @@ impl<X: AsStr + Drop, I: Iterator<Item = Result<Token<X>, Fault>> + Drop> Parser
                 .reader
                 .sees(TokenKind::Operator(Operator::RightParenthesis))
             {
-                self.reader.take()?;
+                drop(self.reader.take()?);
                 return Ok(params);
             }
             let param = self.parameter(alloc)?;
             put_last(&mut params, param)?;
             if !self.reader.sees(TokenKind::Operator(Operator::Comma)) {
-                self.reader
-                    .expect(TokenKind::Operator(Operator::RightParenthesis))?;
+                drop(
+                    self.reader
+                        .expect(TokenKind::Operator(Operator::RightParenthesis))?,
+                );
                 return Ok(params);
             }
-            self.reader.take()?;
+            drop(self.reader.take()?);
         }
     }
 }

@@ -1,4 +1,5 @@
-//! The items of a module, its last line, and whole modules.
+//! The items of a module, its last line, and whole modules. As in `statement.rt`, tokens, annotations and expressions are
+//! dropped by name.
 ghost use Rattle.std.specs.Prelude.{◌≡◌, ◌&&◌, IfOk, codes, bytes_eq};
 ghost use Rattle.pc_token.specs.declared.token.TokenKind.TheVariants as kind;
 ghost use Rattle.pc_token.specs.declared.token.Operator.TheVariants as sign;
@@ -40,14 +41,35 @@ impl<X: AsStr + Drop, I: Iterator<Item = Result<Token<X>, Fault>> + Drop> Parser
         ensures { ReadsConstant X.AsStr I.Iterator self.old self.new (name_of name) result }
     {
         let annotation = self.annotation_behind(alloc, Operator::Colon)?;
-        self.reader.expect(TokenKind::Operator(Operator::Equal))?;
-        let value = self.expression(alloc)?;
-        self.reader.expect(TokenKind::Newline)?;
-        Ok(Constant {
+        match self.reader.expect(TokenKind::Operator(Operator::Equal)) {
+            Ok(equal) => drop(equal),
+            Err(fault) => {
+                drop(annotation);
+                return Err(fault);
+            }
+        }
+        let value = match self.expression(alloc) {
+            Ok(value) => value,
+            Err(fault) => {
+                drop(annotation);
+                return Err(fault);
+            }
+        };
+        let constant = Constant {
             name,
             annotation,
             value: value.expr,
-        })
+        };
+        match self.reader.expect(TokenKind::Newline) {
+            Ok(end) => {
+                drop(end);
+                Ok(constant)
+            }
+            Err(fault) => {
+                drop(constant);
+                Err(fault)
+            }
+        }
     }
 
     /// Reads an item of the module, or its last line.
@@ -57,17 +79,21 @@ impl<X: AsStr + Drop, I: Iterator<Item = Result<Token<X>, Fault>> + Drop> Parser
     {
         if self.reader.sees(TokenKind::Operator(Operator::At)) {
             let at = self.reader.take()?;
+            let first = at.place;
+            drop(at);
             let class = self.class(alloc)?;
             return Ok(Piece::Item(Item {
-                first: at.place,
+                first,
                 kind: ItemKind::Class(class),
             }));
         }
         if self.reader.sees(TokenKind::Keyword(Keyword::Def)) {
             let def = self.reader.take()?;
+            let first = def.place;
+            drop(def);
             let function = self.function(alloc, false)?;
             return Ok(Piece::Item(Item {
-                first: def.place,
+                first,
                 kind: ItemKind::Def(function),
             }));
         }

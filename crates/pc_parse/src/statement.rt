@@ -1,10 +1,15 @@
 //! Statements of one line. Each function takes the tokens that it reads, and fails as `Reader::misfit` does at the
-//! first that does not fit, or if an allocation fails.
-ghost use Rattle.std.specs.Prelude.{◌≡◌, MatchOption, Some, None};
+//! first that does not fit, or if an allocation fails. Values with many variants, and tokens, are dropped by name: proofs
+//! take long where one goes out of scope.
+ghost use Rattle.std.specs.Prelude.{◌≡◌, MatchOption, MatchResult, Some, None};
 ghost use Rattle.pc_tree.specs.Tree.{expr_of, target_of};
 ghost use Rattle.pc_grammar.specs.Machine.Finishing.{if_plain, target_of_tree};
 ghost use Rattle.pc_grammar.specs.Machine.Kinds.{lead_of as lead_of_kind, leads_return, leads_assert, leads_other};
-ghost use Rattle.pc_reader.specs.Reading.{IsReady};
+ghost use Rattle.pc_grammar.specs.Machine.{at};
+ghost use Rattle.pc_grammar.specs.Machine.States.{ExpressionPosition, whole, operand};
+ghost use Rattle.pc_reader.specs.declared.operand.Operand.{Operand};
+ghost use Rattle.pc_reader.specs.Reading.{Blames, Came, IsReady};
+ghost use Rattle.pc_parse.specs.Internal.WholeTrees.{GivesWhole};
 ghost use Rattle.pc_parse.specs.Internal.Suites.{lead_view, HasLead, HasWord, kind_of_word, ReadsStmt, ReadsLineEnd};
 ghost use Rattle.pc_parse.specs.Internal.Suites.{ReadsLocal};
 
@@ -76,13 +81,25 @@ fn target(operand: Operand) -> Option<Target>
         (λ t. if_plain operand.plain (target_of_tree (expr_of operand.expr)) ≡ Some (target_of t)) }
 {
     if !operand.plain {
+        drop(operand);
         return None;
     }
     match operand.expr {
         Expr::Name(name) => Some(Target::Name(name)),
-        Expr::Attribute(place, object, field) => Some(Target::Attribute(place, object, field)),
-        Expr::Index(place, object, key) => Some(Target::Index(place, object, key)),
-        _ => None,
+        Expr::Attribute {
+            place,
+            object,
+            name: field,
+        } => Some(Target::Attribute {
+            place,
+            object,
+            name: field,
+        }),
+        Expr::Index { place, object, key } => Some(Target::Index { place, object, key }),
+        other => {
+            drop(other);
+            None
+        }
     }
 }
 
@@ -102,8 +119,20 @@ impl<X: AsStr + Drop, I: Iterator<Item = Result<Token<X>, Fault>> + Drop> Parser
         requires { IsReady I.can_next I.remaining self.old.reader }
         ensures { ReadsLineEnd X.AsStr I.Iterator self.old self.new read result }
     {
-        self.reader.expect(TokenKind::Newline)?;
+        drop(self.reader.expect(TokenKind::Newline)?);
         Ok(read)
+    }
+
+    /// Reads a whole expression into a box and notes its depth.
+    fn boxed_expression(&mut self, alloc: Global) -> Result<Box<Expr>, Fault>
+        requires { IsReady I.can_next I.remaining self.old.reader }
+        ensures { MatchResult result
+            (λ b. (o : Operand) × GivesWhole X.AsStr I.Iterator self.old self.new o × (b.value ≡ o.expr))
+            (λ e. Blames e (λ o. (c : ExpressionPosition) → Came X.text I.next_gives self.old.reader
+            (at (operand (whole c))) o)) }
+    {
+        let value = self.expression(alloc)?;
+        Ok(Box::new(alloc, value.expr)?)
     }
 
     /// Reads `pass`, `break` or `continue`, and the end of the line.
@@ -112,9 +141,11 @@ impl<X: AsStr + Drop, I: Iterator<Item = Result<Token<X>, Fault>> + Drop> Parser
         ensures { ReadsStmt X.AsStr I.Iterator
             (λ _. HasWord X.text (kind_of_word word) self.old) self.old self.new result }
     {
-        let first = self.reader.take()?;
+        let token = self.reader.take()?;
+        let first = token.place;
+        drop(token);
         self.line_end(Stmt {
-            first: first.place,
+            first,
             kind: kind_of_word(word),
         })
     }
@@ -125,18 +156,19 @@ impl<X: AsStr + Drop, I: Iterator<Item = Result<Token<X>, Fault>> + Drop> Parser
         ensures { ReadsStmt X.AsStr I.Iterator
             (λ _. HasLead leads_return self.old) self.old self.new result }
     {
-        let first = self.reader.take()?;
+        let token = self.reader.take()?;
+        let first = token.place;
+        drop(token);
         if self.reader.sees(TokenKind::Newline) {
             return self.line_end(Stmt {
-                first: first.place,
+                first,
                 kind: StmtKind::Return(None),
             });
         }
-        let value = self.expression(alloc)?;
-        let boxed = Box::new(alloc, value.expr)?;
+        let value = self.boxed_expression(alloc)?;
         self.line_end(Stmt {
-            first: first.place,
-            kind: StmtKind::Return(Some(boxed)),
+            first,
+            kind: StmtKind::Return(Some(value)),
         })
     }
 
@@ -146,21 +178,21 @@ impl<X: AsStr + Drop, I: Iterator<Item = Result<Token<X>, Fault>> + Drop> Parser
         ensures { ReadsStmt X.AsStr I.Iterator
             (λ _. HasLead leads_assert self.old) self.old self.new result }
     {
-        let first = self.reader.take()?;
-        let condition = self.expression(alloc)?;
-        let boxed = Box::new(alloc, condition.expr)?;
+        let token = self.reader.take()?;
+        let first = token.place;
+        drop(token);
+        let condition = self.boxed_expression(alloc)?;
         if self.reader.sees(TokenKind::Operator(Operator::Comma)) {
-            self.reader.take()?;
-            let message = self.expression(alloc)?;
-            let boxed_message = Box::new(alloc, message.expr)?;
+            drop(self.reader.take()?);
+            let message = self.boxed_expression(alloc)?;
             return self.line_end(Stmt {
-                first: first.place,
-                kind: StmtKind::Assert(boxed, Some(boxed_message)),
+                first,
+                kind: StmtKind::Assert(condition, Some(message)),
             });
         }
         self.line_end(Stmt {
-            first: first.place,
-            kind: StmtKind::Assert(boxed, None),
+            first,
+            kind: StmtKind::Assert(condition, None),
         })
     }
 
@@ -178,19 +210,24 @@ impl<X: AsStr + Drop, I: Iterator<Item = Result<Token<X>, Fault>> + Drop> Parser
             let Some(target) = target(begun) else {
                 return Err(self.reader.misfit());
             };
-            self.reader.take()?;
-            let value = self.expression(alloc)?;
-            let boxed = Box::new(alloc, value.expr)?;
+            drop(self.reader.take()?);
+            let value = match self.boxed_expression(alloc) {
+                Ok(value) => value,
+                Err(fault) => {
+                    drop(target);
+                    return Err(fault);
+                }
+            };
             return self.line_end(Stmt {
                 first,
-                kind: StmtKind::Assign(target, boxed),
+                kind: StmtKind::Assign(target, value),
             });
         }
         if self.reader.sees(TokenKind::Operator(Operator::Colon)) {
             let Some(name) = plain_name(begun) else {
                 return Err(self.reader.misfit());
             };
-            self.reader.take()?;
+            drop(self.reader.take()?);
             return self.annotated(alloc, first, name);
         }
         self.line_end(Stmt {
@@ -207,17 +244,24 @@ impl<X: AsStr + Drop, I: Iterator<Item = Result<Token<X>, Fault>> + Drop> Parser
         let annotation = self.annotation(alloc)?;
         let boxed = Box::new(alloc, annotation)?;
         if self.reader.sees(TokenKind::Operator(Operator::Equal)) {
-            self.reader.take()?;
-            let value = self.expression(alloc)?;
-            let boxed_value = Box::new(alloc, value.expr)?;
+            drop(self.reader.take()?);
+            let value = self.boxed_expression(alloc)?;
             return self.line_end(Stmt {
                 first,
-                kind: StmtKind::Annotated(name, boxed, Some(boxed_value)),
+                kind: StmtKind::Annotated {
+                    target: name,
+                    annotation: boxed,
+                    value: Some(value),
+                },
             });
         }
         self.line_end(Stmt {
             first,
-            kind: StmtKind::Annotated(name, boxed, None),
+            kind: StmtKind::Annotated {
+                target: name,
+                annotation: boxed,
+                value: None,
+            },
         })
     }
 }

@@ -1,4 +1,4 @@
-//! Suites, and the statements that have them.
+//! Suites, and the statements that have them. As in `statement.rt`, tokens and expressions are dropped by name.
 ghost use Rattle.std.specs.Prelude.{◌≡◌};
 ghost use Rattle.pc_grammar.specs.Machine.Kinds.{leads_while, leads_for, leads_if};
 ghost use Rattle.pc_reader.specs.Reading.{IsReady};
@@ -19,14 +19,14 @@ impl<X: AsStr + Drop, I: Iterator<Item = Result<Token<X>, Fault>> + Drop> Parser
         requires { IsReady I.can_next I.remaining self.old.reader }
         ensures { ReadsSuite X.AsStr I.Iterator self.old self.new result }
     {
-        self.reader.expect(TokenKind::Newline)?;
-        self.reader.expect(TokenKind::Indent)?;
+        drop(self.reader.expect(TokenKind::Newline)?);
+        drop(self.reader.expect(TokenKind::Indent)?);
         let mut stmts = Vec::new(alloc);
         loop {
             let stmt = self.statement(alloc)?;
             put_last(&mut stmts, stmt)?;
             if self.reader.sees(TokenKind::Dedent) {
-                self.reader.take()?;
+                drop(self.reader.take()?);
                 return Ok(stmts);
             }
         }
@@ -60,11 +60,13 @@ impl<X: AsStr + Drop, I: Iterator<Item = Result<Token<X>, Fault>> + Drop> Parser
         ensures { ReadsStmt X.AsStr I.Iterator
             (λ _. HasLead leads_while self.old) self.old self.new result }
     {
-        let first = self.reader.take()?;
+        let token = self.reader.take()?;
+        let first = token.place;
+        drop(token);
         let (condition, body) = self.headed(alloc)?;
         let boxed = Box::new(alloc, condition)?;
         Ok(Stmt {
-            first: first.place,
+            first,
             kind: StmtKind::While(boxed, body),
         })
     }
@@ -76,14 +78,20 @@ impl<X: AsStr + Drop, I: Iterator<Item = Result<Token<X>, Fault>> + Drop> Parser
         ensures { ReadsStmt X.AsStr I.Iterator
             (λ _. HasLead leads_for self.old) self.old self.new result }
     {
-        let first = self.reader.take()?;
+        let token = self.reader.take()?;
+        let first = token.place;
+        drop(token);
         let target = self.reader.name(alloc)?;
-        self.reader.expect(TokenKind::Keyword(Keyword::In))?;
+        drop(self.reader.expect(TokenKind::Keyword(Keyword::In))?);
         let (iterable, body) = self.headed(alloc)?;
         let boxed = Box::new(alloc, iterable)?;
         Ok(Stmt {
-            first: first.place,
-            kind: StmtKind::For(target, boxed, body),
+            first,
+            kind: StmtKind::For {
+                target,
+                iterable: boxed,
+                body,
+            },
         })
     }
 
@@ -94,7 +102,9 @@ impl<X: AsStr + Drop, I: Iterator<Item = Result<Token<X>, Fault>> + Drop> Parser
         ensures { ReadsStmt X.AsStr I.Iterator
             (λ _. HasLead leads_if self.old) self.old self.new result }
     {
-        let first = self.reader.take()?;
+        let token = self.reader.take()?;
+        let first = token.place;
+        drop(token);
         let mut branches = Vec::new(alloc);
         loop {
             let (condition, body) = self.headed(alloc)?;
@@ -102,11 +112,11 @@ impl<X: AsStr + Drop, I: Iterator<Item = Result<Token<X>, Fault>> + Drop> Parser
             if !self.reader.sees(TokenKind::Keyword(Keyword::Elif)) {
                 let otherwise = self.otherwise(alloc)?;
                 return Ok(Stmt {
-                    first: first.place,
+                    first,
                     kind: StmtKind::If(branches, otherwise),
                 });
             }
-            self.reader.take()?;
+            drop(self.reader.take()?);
         }
     }
 
@@ -117,8 +127,20 @@ impl<X: AsStr + Drop, I: Iterator<Item = Result<Token<X>, Fault>> + Drop> Parser
         ensures { ReadsHeaded X.AsStr I.Iterator self.old self.new result }
     {
         let head = self.expression(alloc)?;
-        self.reader.expect(TokenKind::Operator(Operator::Colon))?;
-        let body = self.suite(alloc)?;
+        match self.reader.expect(TokenKind::Operator(Operator::Colon)) {
+            Ok(colon) => drop(colon),
+            Err(fault) => {
+                drop(head);
+                return Err(fault);
+            }
+        }
+        let body = match self.suite(alloc) {
+            Ok(body) => body,
+            Err(fault) => {
+                drop(head);
+                return Err(fault);
+            }
+        };
         Ok((head.expr, body))
     }
 
@@ -131,8 +153,8 @@ impl<X: AsStr + Drop, I: Iterator<Item = Result<Token<X>, Fault>> + Drop> Parser
         if !self.reader.sees(TokenKind::Keyword(Keyword::Else)) {
             return Ok(Vec::new(alloc));
         }
-        self.reader.take()?;
-        self.reader.expect(TokenKind::Operator(Operator::Colon))?;
+        drop(self.reader.take()?);
+        drop(self.reader.expect(TokenKind::Operator(Operator::Colon))?);
         self.suite(alloc)
     }
 }

@@ -13,13 +13,13 @@ use Rattle.pc_token.specs.declared.token.Token.{Token}
 use Rattle.pc_token.specs.declared.token.TokenKind.{TokenKind}
 use Rattle.pc_token.specs.Lexeme.{Lexeme, form_of}
 use Rattle.pc_tree.specs.Tree.{Module}
-use Rattle.pc_grammar.specs.Machine.{Reading, Outcome, reads, refuses, short, step, stop, stop_at, transition}
+use Rattle.pc_grammar.specs.Machine.{Reading, ReadOutcome, reads, refuses, short, step, stop, stop_at, transition}
 use Rattle.pc_grammar.specs.Machine.Kinds.{same_kind}
 use Rattle.pc_grammar.specs.Machine.States.{State, stuck}
 use Rattle.pc_reader.specs.declared.reader.Reader.{Reader}
 
 -- the answer for an outcome of tokens that end at this byte
-abbrev pub answer_for : ℕ → Outcome → Result Module Fault
+abbrev pub answer_for : ℕ → ReadOutcome → Result Module Fault
 answer_for end (reads m) = Ok m
 answer_for end (refuses byte) = Err (fault.Refused (record { code = code.G1; byte = byte }))
 answer_for end short = Err (fault.Refused (record { code = code.G1; byte = end }))

@@ -9,7 +9,7 @@ use pc_token::{Token, TokenKind};
 use std::convert::AsStr;
 
 impl<X: AsStr + Drop, I: Iterator<Item = Result<Token<X>, Fault>> + Drop> Reader<X, I> {
-    /// Takes a name of this form. Fails as `misfit` does if another token is ahead.
+    /// Takes a name of this form. If another token is ahead, fails with the fault that `misfit` returns.
     pub fn expect_name(&mut self, form: &str) -> Result<Token<X>, Fault>
         requires { IsReady I.can_next I.remaining self.old }
         ensures { ReadsForm X.AsStr I.Iterator form.now self.old self.new result }
@@ -21,7 +21,8 @@ impl<X: AsStr + Drop, I: Iterator<Item = Result<Token<X>, Fault>> + Drop> Reader
         }
     }
 
-    /// Takes tokens of these kinds, in order. Fails as `misfit` does at the first that is not of its kind.
+    /// Takes tokens of these kinds, in order. At the first that is not of its kind, fails with the fault that `misfit`
+    /// returns.
     pub fn fixed(&mut self, kinds: &[TokenKind]) -> Result<(), Fault>
         requires { IsReady I.can_next I.remaining self.old }
         ensures { ReadsFixed X.AsStr I.Iterator (kinds_of kinds.now) self.old self.new result }

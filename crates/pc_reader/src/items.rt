@@ -203,14 +203,24 @@ pub(crate) fn called(
     let inner = Box::new(alloc, kept(depth, callee.expr, place))?;
     if depth > 64 {
         return Ok(node(
-            Expr::Call(place, inner, Vec::new(alloc), Vec::new(alloc)),
+            Expr::Call {
+                place,
+                callee: inner,
+                arguments: Vec::new(alloc),
+                keywords: Vec::new(alloc),
+            },
             place,
             7,
             depth,
         ));
     }
     Ok(node(
-        Expr::Call(place, inner, items.exprs, keywords.arguments),
+        Expr::Call {
+            place,
+            callee: inner,
+            arguments: items.exprs,
+            keywords: keywords.arguments,
+        },
         place,
         7,
         depth,

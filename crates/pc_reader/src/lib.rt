@@ -2,6 +2,7 @@
 //! literals, expressions.
 #![tactic(auto)]
 
+mod brackets;
 mod expression;
 mod fixed;
 mod items;

@@ -72,7 +72,8 @@ impl<X: AsStr + Drop, I: Iterator<Item = Result<Token<X>, Fault>> + Drop> Reader
         }
     }
 
-    /// Reads a literal: `-` and a whole number, or a single token. Fails as `misfit` does if no literal is ahead.
+    /// Reads a literal: `-` and a whole number, or a single token. If no literal is ahead, fails with the fault that
+    /// `misfit` returns.
     fn literal(&mut self, alloc: Global) -> Result<Literal, Fault>
         requires { IsReady I.can_next I.remaining self.old }
         ensures { ReadsLiteral X.AsStr I.Iterator self.old self.new result }
@@ -88,7 +89,8 @@ impl<X: AsStr + Drop, I: Iterator<Item = Result<Token<X>, Fault>> + Drop> Reader
         plain(alloc, token)
     }
 
-    /// Reads the whole number after a `-` that begins at byte `start`. Fails as `misfit` does if no number is ahead.
+    /// Reads the whole number after a `-` that begins at byte `start`. If no number is ahead, fails with the fault that
+    /// `misfit` returns.
     fn negative(&mut self, alloc: Global, start: usize) -> Result<Literal, Fault>
         requires { IsReady I.can_next I.remaining self.old }
         ensures { ReadsNegative X.AsStr I.Iterator self.old self.new start result }
@@ -105,7 +107,7 @@ impl<X: AsStr + Drop, I: Iterator<Item = Result<Token<X>, Fault>> + Drop> Reader
         })
     }
 
-    /// Reads `=` and a literal, if `=` is ahead. Fails as `misfit` does if no literal follows it.
+    /// Reads `=` and a literal, if `=` is ahead. If no literal follows it, fails with the fault that `misfit` returns.
     pub fn default(&mut self, alloc: Global) -> Result<Option<Literal>, Fault>
         requires { IsReady I.can_next I.remaining self.old }
         ensures { ReadsDefault X.AsStr I.Iterator self.old self.new result }

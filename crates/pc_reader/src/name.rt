@@ -15,7 +15,7 @@ use std::convert::AsStr;
 
 /// Returns the name that a token is.
 #[inline(always)]
-pub(crate) fn named<X: AsStr + Drop>(alloc: Global, token: &Token<X>) -> Result<Name, Fault>
+pub(crate) fn name_of_word<X: AsStr + Drop>(alloc: Global, token: &Token<X>) -> Result<Name, Fault>
     ensures { MatchResult result (λ n. name_of n ≡ name_of_token (lexeme X.text token.now)) (λ e. e ≡ fault.OutOfMemory) }
 {
     Ok(Name {
@@ -97,7 +97,7 @@ fn unescaped(character: char) -> char
 }
 
 impl<X: AsStr + Drop, I: Iterator<Item = Result<Token<X>, Fault>> + Drop> Reader<X, I> {
-    /// Reads a name. Fails as `misfit` does if another token is ahead.
+    /// Reads a name. If another token is ahead, fails with the fault that `misfit` returns.
     pub fn name(&mut self, alloc: Global) -> Result<Name, Fault>
         requires { IsReady I.can_next I.remaining self.old }
         ensures { ReadsName X.AsStr I.Iterator self.old self.new result }
@@ -108,7 +108,7 @@ impl<X: AsStr + Drop, I: Iterator<Item = Result<Token<X>, Fault>> + Drop> Reader
         if !is_same(token.kind, TokenKind::Name) {
             return Err(self.misfit());
         }
-        let name = named(alloc, token)?;
+        let name = name_of_word(alloc, token)?;
         self.skip()?;
         Ok(name)
     }

@@ -7,7 +7,7 @@ use pc_source::Fault;
 use pc_token::{Keyword, Token, TokenKind};
 use std::convert::AsStr;
 
-/// What follows `is` in a test of `None`: whether it is `not None`, and the byte where it ends.
+/// The part of a test of `None` after `is`: whether it is `not None`, and the byte where it ends.
 #[derive(Drop)]
 pub(crate) struct NoneTest {
     pub negated: bool,

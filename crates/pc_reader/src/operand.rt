@@ -62,10 +62,20 @@ impl Infix {
         ensures { expr_of result ≡ infix_tree (infix_of self) (expr_of left.value) (expr_of right.value) place }
     {
         match self {
-            Infix::Arithmetic(operator) => Expr::Binary(place, operator, left, right),
-            Infix::Comparison(operator) => Expr::Compare(place, operator, left, right),
-            Infix::And => Expr::And(place, left, right),
-            Infix::Or => Expr::Or(place, left, right),
+            Infix::Arithmetic(operator) => Expr::Binary {
+                place,
+                operator,
+                left,
+                right,
+            },
+            Infix::Comparison(operator) => Expr::Compare {
+                place,
+                operator,
+                left,
+                right,
+            },
+            Infix::And => Expr::And { place, left, right },
+            Infix::Or => Expr::Or { place, left, right },
         }
     }
 }
@@ -120,7 +130,7 @@ pub(crate) fn node(expr: Expr, place: Place, level: u8, depth: u8) -> Operand
 
 /// Joins two operands with the operator between them.
 #[inline(always)]
-pub(crate) fn join(
+pub(crate) fn join_operands(
     alloc: Global,
     operator: Infix,
     left: Operand,
@@ -211,7 +221,16 @@ pub(crate) fn member(
     };
     let depth = depth_above(operand.depth);
     let inner = Box::new(alloc, kept(depth, operand.expr, place))?;
-    Ok(node(Expr::Attribute(place, inner, name), place, 7, depth))
+    Ok(node(
+        Expr::Attribute {
+            place,
+            object: inner,
+            name,
+        },
+        place,
+        7,
+        depth,
+    ))
 }
 
 /// Returns an operand indexed by a key, up to byte `end`.
@@ -234,7 +253,16 @@ pub(crate) fn indexed(
     let depth = depth_above(deeper(operand.depth, key.depth));
     let object = Box::new(alloc, kept(depth, operand.expr, place))?;
     let inner = Box::new(alloc, kept(depth, key.expr, place))?;
-    Ok(node(Expr::Index(place, object, inner), place, 7, depth))
+    Ok(node(
+        Expr::Index {
+            place,
+            object,
+            key: inner,
+        },
+        place,
+        7,
+        depth,
+    ))
 }
 
 /// Returns an operand in parentheses, from byte `start` to byte `end`.

@@ -11,7 +11,8 @@ use pc_token::{Token, TokenKind};
 use std::convert::AsStr;
 
 impl<X: AsStr + Drop, I: Iterator<Item = Result<Token<X>, Fault>> + Drop> Reader<X, I> {
-    /// Takes the token ahead and returns its place. Fails as `take` does.
+    /// Takes the token ahead and returns its place. Fails with `G1` at the end of the text if there is none, or with
+    /// the stream's next fault.
     pub(crate) fn take_place(&mut self) -> Result<Place, Fault>
         requires { IsReady I.can_next I.remaining self.old }
         ensures { MatchResult result (λ p. TakesAt X.AsStr I.Iterator self.old self.new p)
@@ -22,7 +23,8 @@ impl<X: AsStr + Drop, I: Iterator<Item = Result<Token<X>, Fault>> + Drop> Reader
         Ok(token.place)
     }
 
-    /// Takes the token ahead, which must be of this kind, and returns its place. Fails as `misfit` does if it is not.
+    /// Takes the token ahead and returns its place. If it is not of this kind, fails with the fault that `misfit`
+    /// returns.
     pub(crate) fn expect_place(&mut self, kind: TokenKind) -> Result<Place, Fault>
         requires { IsReady I.can_next I.remaining self.old }
         ensures { MatchResult result (λ p. TakesKindAt X.AsStr I.Iterator kind self.old self.new p)

@@ -168,7 +168,7 @@ impl<X: AsStr + Drop, I: Iterator<Item = Result<Token<X>, Fault>> + Drop> Reader
         }
     }
 
-    /// Takes the token ahead, which must be of this kind. Fails as `misfit` does if it is not.
+    /// Takes the token ahead. If it is not of this kind, fails with the fault that `misfit` returns.
     #[inline(always)]
     pub fn expect(&mut self, kind: TokenKind) -> Result<Token<X>, Fault>
         requires { IsReady I.can_next I.remaining self.old }

@@ -1,43 +1,70 @@
 //! The report as JSON.
 
-ghost use Rattle.std.specs.Prelude.{◌≡◌, ◌++◌, ◌∷◌, [], List, ℕ, Some, IfOk, OnOk, string_bytes, option_and_then};
+ghost use Rattle.std.specs.Prelude.{◌≡◌, ◌++◌, ◌∷◌, [], List, ℕ, None, Some, IfOk, OnOk, string_bytes, option_and_then};
 ghost use Rattle.std.specs.List.{AllByRecursion};
+ghost use Rattle.serde_json.specs.Data.{object};
 ghost use Rattle.serde_json.specs.Read.{read};
 ghost use Rattle.serde_json.specs.View.{view};
-ghost use Rattle.pc_report.specs.Json.{finding_data, finding_json, findings_json, report_json, FitsWords};
+ghost use Rattle.pc_tree.specs.Code.{text_of};
+ghost use Rattle.pc_report.specs.Json.{finding_data, finding_json, finding_members, findings_json, report_json, FitsWords};
 ghost use Rattle.pc_report.specs.ReadBack.{findings_in};
 ghost use Rattle.pc_report.specs.Report.{row_findings, shown_flow};
 
+use crate::flow::FlowTexts;
 use crate::format::Format;
 use crate::report::{Report, Row};
 use pc_source::OutOfMemory;
 use serde_json::{Value, json};
 use std::alloc::{AllocError, Global};
 
+/// Returns a finding as a JSON object, without a flow, given the text of its code.
+fn value_without_flow(alloc: Global, code: &str, row: &Row) -> Result<Value, AllocError>
+    requires { code.now ≡ text_of row.now.finding.code }
+    ensures value { IfOk result (λ v. view v ≡ object (finding_members None row.now)) }
+    ensures words { IfOk result (λ _. FitsWords row.now) }
+{
+    let place = row.finding.place;
+    json!(in alloc; {
+        "code": code,
+        "column": row.column,
+        "end": place.end,
+        "line": row.line,
+        "start": place.start
+    })
+}
+
+/// Returns a finding as a JSON object, with this flow, given the text of its code.
+fn value_with_flow(
+    alloc: Global,
+    code: &str,
+    row: &Row,
+    flow: &FlowTexts,
+) -> Result<Value, AllocError>
+    requires { code.now ≡ text_of row.now.finding.code }
+    ensures value { IfOk result (λ v. view v ≡ object (finding_members (Some flow.now) row.now)) }
+    ensures words { IfOk result (λ _. FitsWords row.now) }
+{
+    let place = row.finding.place;
+    json!(in alloc; {
+        "code": code,
+        "column": row.column,
+        "end": place.end,
+        "from": flow.from.as_str(),
+        "line": row.line,
+        "start": place.start,
+        "to": flow.to.as_str()
+    })
+}
+
 /// Returns a finding as a JSON object.
 fn finding_value(alloc: Global, format: Format, row: &Row) -> Result<Value, AllocError>
     ensures value { IfOk result (λ v. view v ≡ finding_data format row.now) }
     ensures words { IfOk result (λ _. FitsWords row.now) }
 {
-    let place = row.finding.place;
     let code = row.finding.code.text();
     match row.shown_flow(format) {
-        None => json!(in alloc; {
-            "code": code,
-            "column": row.column,
-            "end": place.end,
-            "line": row.line,
-            "start": place.start
-        }),
-        Some(flow) => json!(in alloc; {
-            "code": code,
-            "column": row.column,
-            "end": place.end,
-            "from": flow.from.as_str(),
-            "line": row.line,
-            "start": place.start,
-            "to": flow.to.as_str()
-        }),
+        None => value_without_flow(alloc, code, row),
+        Some(flow) => value_with_flow(alloc, code, row, flow),
     }
 }
 

@@ -9,7 +9,7 @@ use Rattle.pc_tree.specs.Stopping.{has_none}
 use Rattle.pc_scope.specs.declared.resolution.Builtin.{Builtin}
 use Rattle.pc_scope.specs.declared.resolution.Builtin.TheVariants as builtin
 use Rattle.pc_scope.specs.declared.resolution.NameMeaning.{NameMeaning}
-use Rattle.pc_scope.specs.declared.resolution.NameMeaning.TheVariants as res
+use Rattle.pc_scope.specs.declared.resolution.NameMeaning.TheVariants as meaning
 use Rattle.pc_scope.specs.Resolution.{is_one_of}
 use Rattle.pc_types.specs.Tree.{Tree, Any, Str, NoneType, Class, ListOf, DictOf}
 use Rattle.pc_types.specs.Below.{Bases, AreSmaller}
@@ -303,19 +303,19 @@ module _ (ctx : Context) (ck : ContextWellFormed ctx) where
   function_well_formed g (s ∷ ss) (suc i) h = function_well_formed g ss i h.1
 
   name_calls : (env : Env) (g : GivenArguments) (r : NameMeaning) → CallsWellFormed ctx.bases (name_callee ctx env g r).offers
-  name_calls env g (res.Func i) = if_offers ctx.bases ctx.in_body
+  name_calls env g (meaning.Func i) = if_offers ctx.bases ctx.in_body
       (good_callee (function_offer g (slice_get ctx.functions i) ∷ [])) (value_callee (in_error E03))
       (function_well_formed g ctx.functions i ck.functions, tt) (called_value ctx.bases Any)
-  name_calls env g (res.Class c) = if_offers ctx.bases (nat_lt c ctx.known)
+  name_calls env g (meaning.Class c) = if_offers ctx.bases (nat_lt c ctx.known)
       (good_callee (signature_offer g (class_signature ctx.classes c) ∷ [])) (value_callee (in_error E03)) (
         called_well_formed ctx.bases g (class_signature ctx.classes c)
             (class_signature_well_formed ctx.bases ctx.classes ck.classes c),
         tt,
       ) (called_value ctx.bases Any)
-  name_calls env g (res.Builtin b) = built_in ctx.bases g b
-  name_calls env g (res.Local x) = called_value ctx.bases (name_label ctx env (res.Local x)).type
-  name_calls env g (res.Const i) = called_value ctx.bases (name_label ctx env (res.Const i)).type
-  name_calls env g res.None = called_value ctx.bases Any
+  name_calls env g (meaning.Builtin b) = built_in ctx.bases g b
+  name_calls env g (meaning.Local x) = called_value ctx.bases (name_label ctx env (meaning.Local x)).type
+  name_calls env g (meaning.Const i) = called_value ctx.bases (name_label ctx env (meaning.Const i)).type
+  name_calls env g meaning.None = called_value ctx.bases Any
 
   value_calls : (m : Label) → CallsWellFormed ctx.bases (if ctx.in_body then value_callee m else value_callee
       (in_error E03)).offers
@@ -352,16 +352,16 @@ module _ (ctx : Context) (ck : ContextWellFormed ctx) where
 
   name_callee_label : (env : Env) → IsWellFormedEnv ctx.bases env → (g : GivenArguments) (r : NameMeaning)
       → IsWellFormed ctx.bases (name_callee ctx env g r).label.type
-  name_callee_label env k g (res.Func i) = if_label ctx.in_body
+  name_callee_label env k g (meaning.Func i) = if_label ctx.in_body
       (good_callee (function_offer g (slice_get ctx.functions i) ∷ [])) (value_callee (in_error E03))
       (any_well_formed ctx.bases) (any_well_formed ctx.bases)
-  name_callee_label env k g (res.Class c) = if_label (nat_lt c ctx.known)
+  name_callee_label env k g (meaning.Class c) = if_label (nat_lt c ctx.known)
       (good_callee (signature_offer g (class_signature ctx.classes c) ∷ [])) (value_callee (in_error E03))
       (any_well_formed ctx.bases) (any_well_formed ctx.bases)
-  name_callee_label env k g (res.Builtin b) = built_in_label g b
-  name_callee_label env k g (res.Local x) = name_well_formed ctx ck env k (res.Local x)
-  name_callee_label env k g (res.Const i) = name_well_formed ctx ck env k (res.Const i)
-  name_callee_label env k g res.None = name_well_formed ctx ck env k res.None
+  name_callee_label env k g (meaning.Builtin b) = built_in_label g b
+  name_callee_label env k g (meaning.Local x) = name_well_formed ctx ck env k (meaning.Local x)
+  name_callee_label env k g (meaning.Const i) = name_well_formed ctx ck env k (meaning.Const i)
+  name_callee_label env k g meaning.None = name_well_formed ctx ck env k meaning.None
 
   pub callee_label_well_formed : (env : Env) → IsWellFormedEnv ctx.bases env
       → (g : GivenArguments) (e : Expr) (m : Labels e) → IsWellFormed ctx.bases (type_of e m)

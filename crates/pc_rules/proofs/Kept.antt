@@ -1,4 +1,4 @@
--- The types of a setting and an environment are kept over calls that may add types to the store.
+-- The types of a context and an environment are kept over calls that may add types to the store.
 use Rattle.std.proofs.Common.{◌≡◌, List, Option, Some, None}
 use Rattle.std.specs.Prelude.{All}
 use Rattle.std.proofs.lemmas.List.Elements.{All-weaker}
@@ -51,7 +51,7 @@ module _ {Ty : Type 0} (has later : Ty → Type 0) (k : (ty : Ty) → has ty →
   types_kept types h = All-weaker has later k types h
 
   module _ (tree : Ty → Tree) (s : ExprContext Ty) (env : List (Option Ty)) where
-    -- all types of a setting and of an environment stay given
+    -- all types of a context and of an environment stay given
     pub stands_kept : HasGivenAll has tree s env → HasGivenAll later tree s env
     stands_kept h = record {
       classes = entries_kept s.globals.now.classes.now h.classes;

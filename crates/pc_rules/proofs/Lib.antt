@@ -1,6 +1,6 @@
 pub mod Along
 pub mod Called
-pub mod Checkers
+pub mod TypingStates
 pub mod ComputedFlows
 pub mod ComputedLawful
 pub mod Contexts

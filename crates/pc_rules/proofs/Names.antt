@@ -3,7 +3,7 @@ use Rattle.std.proofs.Common.{Bool as Test, true, false, Option, Some, None}
 use Rattle.std.specs.Prelude.{if◌then◌else◌, nat_lt, slice_get}
 use Rattle.pc_tree.specs.declared.code.Code.TheVariants.{E03, E20}
 use Rattle.pc_scope.specs.declared.resolution.NameMeaning.{NameMeaning}
-use Rattle.pc_scope.specs.declared.resolution.NameMeaning.TheVariants as res
+use Rattle.pc_scope.specs.declared.resolution.NameMeaning.TheVariants as meaning
 use Rattle.pc_types.specs.Tree.{Tree}
 use Rattle.pc_types.specs.Below.{Bases}
 use Rattle.pc_flow.specs.Environment.{Env, current}
@@ -31,11 +31,11 @@ early_well_formed bases false = any_well_formed bases
 
 pub name_well_formed : (ctx : Context) → ContextWellFormed ctx → (env : Env) → IsWellFormedEnv ctx.bases env → (r : NameMeaning)
     → IsWellFormed ctx.bases (name_label ctx env r).type
-name_well_formed ctx k env h (res.Local x) = local_well_formed ctx.bases (current env x)
+name_well_formed ctx k env h (meaning.Local x) = local_well_formed ctx.bases (current env x)
     (current_well_formed ctx.bases env x h)
-name_well_formed ctx k env h (res.Const i) = constant_well_formed ctx.bases (slice_get ctx.constants i)
+name_well_formed ctx k env h (meaning.Const i) = constant_well_formed ctx.bases (slice_get ctx.constants i)
     (at_well_formed ctx.bases ctx.constants i k.constants)
-name_well_formed ctx k env h (res.Func i) = early_well_formed ctx.bases ctx.in_body
-name_well_formed ctx k env h (res.Class c) = early_well_formed ctx.bases (nat_lt c ctx.known)
-name_well_formed ctx k env h (res.Builtin b) = any_well_formed ctx.bases
-name_well_formed ctx k env h res.None = any_well_formed ctx.bases
+name_well_formed ctx k env h (meaning.Func i) = early_well_formed ctx.bases ctx.in_body
+name_well_formed ctx k env h (meaning.Class c) = early_well_formed ctx.bases (nat_lt c ctx.known)
+name_well_formed ctx k env h (meaning.Builtin b) = any_well_formed ctx.bases
+name_well_formed ctx k env h meaning.None = any_well_formed ctx.bases

@@ -15,7 +15,7 @@ use Rattle.pc_tree.proofs.Among.{none_among, among_first}
 use Rattle.pc_scope.specs.declared.resolution.Builtin.{Builtin}
 use Rattle.pc_scope.specs.declared.resolution.Builtin.TheVariants as builtin
 use Rattle.pc_scope.specs.declared.resolution.NameMeaning.{NameMeaning}
-use Rattle.pc_scope.specs.declared.resolution.NameMeaning.TheVariants as res
+use Rattle.pc_scope.specs.declared.resolution.NameMeaning.TheVariants as meaning
 use Rattle.pc_scope.specs.Expressions.{is_name}
 use Rattle.pc_types.specs.Tree.{Tree}
 use Rattle.pc_types.specs.Below.{Bases}
@@ -118,14 +118,14 @@ part_either e (x ∷ xs) ys h = elim h [
 
 -- an expression in this context may not name this meaning yet
 abbrev pub IsEarlyHere : Context → NameMeaning → Type 0
-IsEarlyHere ctx (res.Func i) = ctx.in_body ≡ false
-IsEarlyHere ctx (res.Const i) = slice_get ctx.constants i ≡ None
-IsEarlyHere ctx (res.Class c) = nat_lt c ctx.known ≡ false
+IsEarlyHere ctx (meaning.Func i) = ctx.in_body ≡ false
+IsEarlyHere ctx (meaning.Const i) = slice_get ctx.constants i ≡ None
+IsEarlyHere ctx (meaning.Class c) = nat_lt c ctx.known ≡ false
 IsEarlyHere ctx _ = ⊥
 
 -- a name means nothing, or what may not be named here
 abbrev pub NameSays : Context → Name → Finding → Type 0
-NameSays ctx n f = ((ctx.resolve n.text ≡ res.None) × (f ≡ finding n.place E02))
+NameSays ctx n f = ((ctx.resolve n.text ≡ meaning.None) × (f ≡ finding n.place E02))
     ⊎ (IsEarlyHere ctx (ctx.resolve n.text) × (f ≡ finding n.place E03))
 
 -- in an initializer a callee is no name
@@ -238,28 +238,28 @@ module _ (ctx : Context) where
       of_local None found = absurd (not_of_scopes n.place _ f (refl, tt) s found)
       of_local (Some t) found = absurd (not_of_scopes n.place [] f tt s found)
 
-      of_constant : (i : ℕ) (o : Option Tree) → ctx.resolve n.text ≡ res.Const i → slice_get ctx.constants i ≡ o
+      of_constant : (i : ℕ) (o : Option Tree) → ctx.resolve n.text ≡ meaning.Const i → slice_get ctx.constants i ≡ o
           → IsFoundAt n.place (constant_label o).codes f → NameSays ctx n f
-      of_constant i None is e found = early (res.Const i) is e found
+      of_constant i None is e found = early (meaning.Const i) is e found
       of_constant i (Some t) is e found = absurd (not_of_scopes n.place [] f tt s found)
 
-      of_function : (i : ℕ) (b : Test) → ctx.resolve n.text ≡ res.Func i → ctx.in_body ≡ b
+      of_function : (i : ℕ) (b : Test) → ctx.resolve n.text ≡ meaning.Func i → ctx.in_body ≡ b
           → IsFoundAt n.place (if b then in_error E20 else in_error E03).codes f → NameSays ctx n f
       of_function i true is e found = absurd (not_of_scopes n.place _ f (refl, tt) s found)
-      of_function i false is e found = early (res.Func i) is e found
+      of_function i false is e found = early (meaning.Func i) is e found
 
-      of_class : (c : ℕ) (b : Test) → ctx.resolve n.text ≡ res.Class c → nat_lt c ctx.known ≡ b
+      of_class : (c : ℕ) (b : Test) → ctx.resolve n.text ≡ meaning.Class c → nat_lt c ctx.known ≡ b
           → IsFoundAt n.place (if b then in_error E20 else in_error E03).codes f → NameSays ctx n f
       of_class c true is e found = absurd (not_of_scopes n.place _ f (refl, tt) s found)
-      of_class c false is e found = early (res.Class c) is e found
+      of_class c false is e found = early (meaning.Class c) is e found
 
       go : (r : NameMeaning) → ctx.resolve n.text ≡ r → IsFoundAt n.place (name_label ctx env r).codes f → NameSays ctx n f
-      go (res.Local x) is found = of_local (current env x) found
-      go (res.Const i) is found = of_constant i (slice_get ctx.constants i) is refl found
-      go (res.Func i) is found = of_function i ctx.in_body is refl found
-      go (res.Class c) is found = of_class c (nat_lt c ctx.known) is refl found
-      go (res.Builtin b) is found = absurd (not_of_scopes n.place _ f (refl, tt) s found)
-      go res.None is found = inl (is, only_at n.place E02 f found)
+      go (meaning.Local x) is found = of_local (current env x) found
+      go (meaning.Const i) is found = of_constant i (slice_get ctx.constants i) is refl found
+      go (meaning.Func i) is found = of_function i ctx.in_body is refl found
+      go (meaning.Class c) is found = of_class c (nat_lt c ctx.known) is refl found
+      go (meaning.Builtin b) is found = absurd (not_of_scopes n.place _ f (refl, tt) s found)
+      go meaning.None is found = inl (is, only_at n.place E02 f found)
 
   -- and as a callee
   pub callee_name_says : (env : Env) (g : GivenArguments) (n : Name) (f : Finding) → is_of_scopes f.code ≡ true
@@ -274,17 +274,17 @@ module _ (ctx : Context) where
       as_value r is found = name_says env n f s (subst (λ x. IsFoundAt n.place (name_label ctx env x).codes f) (sym is)
           found)
 
-      of_function : (i : ℕ) (b : Test) → ctx.resolve n.text ≡ res.Func i → ctx.in_body ≡ b
+      of_function : (i : ℕ) (b : Test) → ctx.resolve n.text ≡ meaning.Func i → ctx.in_body ≡ b
           → IsFoundAt n.place (if b then good_callee (function_offer g (slice_get ctx.functions i) ∷ [])
           else value_callee (in_error E03)).label.codes f → NameSays ctx n f
       of_function i true is e found = absurd (not_of_scopes n.place [] f tt s found)
-      of_function i false is e found = early (res.Func i) is e found
+      of_function i false is e found = early (meaning.Func i) is e found
 
-      of_class : (c : ℕ) (b : Test) → ctx.resolve n.text ≡ res.Class c → nat_lt c ctx.known ≡ b
+      of_class : (c : ℕ) (b : Test) → ctx.resolve n.text ≡ meaning.Class c → nat_lt c ctx.known ≡ b
           → IsFoundAt n.place (if b then good_callee (signature_offer g (class_signature ctx.classes c) ∷ [])
           else value_callee (in_error E03)).label.codes f → NameSays ctx n f
       of_class c true is e found = absurd (not_of_scopes n.place [] f tt s found)
-      of_class c false is e found = early (res.Class c) is e found
+      of_class c false is e found = early (meaning.Class c) is e found
 
       own_or_error : (rule : CallRule) (b : Test) → IsFoundAt n.place
           (if b then own_callee rule else good_callee (fails_at_call E14 ∷ [])).label.codes f → ⊥
@@ -301,12 +301,12 @@ module _ (ctx : Context) where
 
       go : (r : NameMeaning) → ctx.resolve n.text ≡ r → IsFoundAt n.place (name_callee ctx env g r).label.codes f
           → NameSays ctx n f
-      go (res.Local x) is found = as_value (res.Local x) is found
-      go (res.Const i) is found = as_value (res.Const i) is found
-      go (res.Func i) is found = of_function i ctx.in_body is refl found
-      go (res.Class c) is found = of_class c (nat_lt c ctx.known) is refl found
-      go (res.Builtin b) is found = absurd (of_builtin b found)
-      go res.None is found = as_value res.None is found
+      go (meaning.Local x) is found = as_value (meaning.Local x) is found
+      go (meaning.Const i) is found = as_value (meaning.Const i) is found
+      go (meaning.Func i) is found = of_function i ctx.in_body is refl found
+      go (meaning.Class c) is found = of_class c (nat_lt c ctx.known) is refl found
+      go (meaning.Builtin b) is found = absurd (of_builtin b found)
+      go meaning.None is found = as_value meaning.None is found
 
   -- a finding that a name says is one at its label
   pub name_said : (env : Env) (n : Name) (f : Finding) → NameSays ctx n f
@@ -318,12 +318,12 @@ module _ (ctx : Context) where
     where
       go : (r : NameMeaning) → IsEarlyHere ctx r → IsFoundAt n.place (E03 ∷ []) f
           → IsFoundAt n.place (name_label ctx env r).codes f
-      go (res.Func i) e h = subst (λ b. IsFoundAt n.place (if b then in_error E20 else in_error E03).codes f) (sym e) h
-      go (res.Const i) e h = subst (λ o. IsFoundAt n.place (constant_label o).codes f) (sym e) h
-      go (res.Class c) e h = subst (λ b. IsFoundAt n.place (if b then in_error E20 else in_error E03).codes f) (sym e) h
-      go (res.Local x) e h = absurd e
-      go (res.Builtin x) e h = absurd e
-      go res.None e h = absurd e
+      go (meaning.Func i) e h = subst (λ b. IsFoundAt n.place (if b then in_error E20 else in_error E03).codes f) (sym e) h
+      go (meaning.Const i) e h = subst (λ o. IsFoundAt n.place (constant_label o).codes f) (sym e) h
+      go (meaning.Class c) e h = subst (λ b. IsFoundAt n.place (if b then in_error E20 else in_error E03).codes f) (sym e) h
+      go (meaning.Local x) e h = absurd e
+      go (meaning.Builtin x) e h = absurd e
+      go meaning.None e h = absurd e
 
   pub callee_name_said : (env : Env) (g : GivenArguments) (n : Name) (f : Finding) → NameSays ctx n f
       → IsFoundAt n.place (name_callee ctx env g (ctx.resolve n.text)).label.codes f
@@ -335,13 +335,13 @@ module _ (ctx : Context) where
     where
       go : (r : NameMeaning) → IsEarlyHere ctx r → IsFoundAt n.place (E03 ∷ []) f
           → IsFoundAt n.place (name_callee ctx env g r).label.codes f
-      go (res.Func i) e h =
+      go (meaning.Func i) e h =
           subst (λ b. IsFoundAt n.place (if b then good_callee (function_offer g (slice_get ctx.functions i) ∷ [])
           else value_callee (in_error E03)).label.codes f) (sym e) h
-      go (res.Const i) e h = subst (λ o. IsFoundAt n.place (constant_label o).codes f) (sym e) h
-      go (res.Class c) e h =
+      go (meaning.Const i) e h = subst (λ o. IsFoundAt n.place (constant_label o).codes f) (sym e) h
+      go (meaning.Class c) e h =
           subst (λ b. IsFoundAt n.place (if b then good_callee (signature_offer g (class_signature ctx.classes c) ∷ [])
           else value_callee (in_error E03)).label.codes f) (sym e) h
-      go (res.Local x) e h = absurd e
-      go (res.Builtin x) e h = absurd e
-      go res.None e h = absurd e
+      go (meaning.Local x) e h = absurd e
+      go (meaning.Builtin x) e h = absurd e
+      go meaning.None e h = absurd e

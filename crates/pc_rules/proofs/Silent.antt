@@ -13,7 +13,7 @@ use Rattle.pc_tree.specs.Stopping.{has_none}
 use Rattle.pc_scope.specs.declared.resolution.Builtin.{Builtin}
 use Rattle.pc_scope.specs.declared.resolution.Builtin.TheVariants as builtin
 use Rattle.pc_scope.specs.declared.resolution.NameMeaning.{NameMeaning}
-use Rattle.pc_scope.specs.declared.resolution.NameMeaning.TheVariants as res
+use Rattle.pc_scope.specs.declared.resolution.NameMeaning.TheVariants as meaning
 use Rattle.pc_scope.specs.Expressions.{is_name}
 use Rattle.pc_types.specs.Tree.{Tree, Any, Never, Int, Bool, Str, NoneType, Class, ListOf, DictOf, TupleOf}
 use Rattle.pc_types.specs.Below.{Bases}
@@ -345,22 +345,22 @@ module _ (ctx : Context) where
   function_silent g (Some s) = called_silent g s
 
   name_callee_silent : (env : Env) (g : GivenArguments) (r : NameMeaning) → AllCalls (name_callee ctx env g r).offers
-  name_callee_silent env g (res.Func i) = go ctx.in_body
+  name_callee_silent env g (meaning.Func i) = go ctx.in_body
     where
       go : (x : Test) → AllCalls (if x then good_callee (function_offer g (slice_get ctx.functions i) ∷ [])
           else value_callee (in_error E03)).offers
       go true = function_silent g (slice_get ctx.functions i)
       go false = ((tt, (refl, tt)), tt)
-  name_callee_silent env g (res.Class c) = go (nat_lt c ctx.known)
+  name_callee_silent env g (meaning.Class c) = go (nat_lt c ctx.known)
     where
       go : (x : Test) → AllCalls (if x then good_callee (signature_offer g (class_signature ctx.classes c) ∷ [])
           else value_callee (in_error E03)).offers
       go true = called_silent g (class_signature ctx.classes c)
       go false = ((tt, (refl, tt)), tt)
-  name_callee_silent env g (res.Builtin b) = builtin_silent g b
-  name_callee_silent env g (res.Local x) = value_silent (members (name_label ctx env (res.Local x)).type)
-  name_callee_silent env g (res.Const i) = value_silent (members (name_label ctx env (res.Const i)).type)
-  name_callee_silent env g res.None = ((tt, (refl, tt)), tt)
+  name_callee_silent env g (meaning.Builtin b) = builtin_silent g b
+  name_callee_silent env g (meaning.Local x) = value_silent (members (name_label ctx env (meaning.Local x)).type)
+  name_callee_silent env g (meaning.Const i) = value_silent (members (name_label ctx env (meaning.Const i)).type)
+  name_callee_silent env g meaning.None = ((tt, (refl, tt)), tt)
 
   value_callee_silent : (m : Label) (x : Test) → AllCalls (if x then value_callee m else value_callee
       (in_error E03)).offers

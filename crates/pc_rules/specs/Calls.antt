@@ -12,7 +12,7 @@ use Rattle.pc_tree.specs.Stopping.{has_none}
 use Rattle.pc_scope.specs.declared.resolution.Builtin.{Builtin}
 use Rattle.pc_scope.specs.declared.resolution.Builtin.TheVariants as builtin
 use Rattle.pc_scope.specs.declared.resolution.NameMeaning.{NameMeaning}
-use Rattle.pc_scope.specs.declared.resolution.NameMeaning.TheVariants as res
+use Rattle.pc_scope.specs.declared.resolution.NameMeaning.TheVariants as meaning
 use Rattle.pc_scope.specs.Resolution.{is_one_of}
 use Rattle.pc_scope.specs.Expressions.{keyword_names}
 use Rattle.pc_types.specs.Tree.{Tree, Any, Object, Never, Int, Bool, Str, NoneType, Class, ListOf, DictOf}
@@ -223,11 +223,11 @@ builtin_callee g _ = value_callee (in_error E20)
 
 -- a name as a callee: a function, a class or a built-in, and otherwise a value
 abbrev pub name_callee : Context → Env → GivenArguments → NameMeaning → CalleeLabel
-name_callee ctx env g (res.Func i) = if ctx.in_body then good_callee (function_offer g (slice_get ctx.functions i) ∷ [])
+name_callee ctx env g (meaning.Func i) = if ctx.in_body then good_callee (function_offer g (slice_get ctx.functions i) ∷ [])
     else value_callee (in_error E03)
-name_callee ctx env g (res.Class c) = if nat_lt c ctx.known
+name_callee ctx env g (meaning.Class c) = if nat_lt c ctx.known
     then good_callee (signature_offer g (class_signature ctx.classes c) ∷ []) else value_callee (in_error E03)
-name_callee ctx env g (res.Builtin b) = builtin_callee g b
+name_callee ctx env g (meaning.Builtin b) = builtin_callee g b
 name_callee ctx env g r = value_callee (name_label ctx env r)
 
 -- the callee `e.m`, where e has this type
@@ -347,7 +347,7 @@ second_code None false = Some E25
 
 -- whether the name means the built-in `range`
 abbrev pub is_range : NameMeaning → Test
-is_range (res.Builtin builtin.Range) = true
+is_range (meaning.Builtin builtin.Range) = true
 is_range _ = false
 
 -- `range` takes one int. Its result is used only as the iterable of a `for`, so no rule reads its type: there is no

@@ -5,7 +5,7 @@ use Rattle.std.specs.Prelude.{None, slice_get}
 use Rattle.pc_tree.specs.declared.code.Code.{Code}
 use Rattle.pc_tree.specs.declared.code.Code.TheVariants.{E02, E03, E04, E20}
 use Rattle.pc_scope.specs.declared.resolution.NameMeaning.{NameMeaning}
-use Rattle.pc_scope.specs.declared.resolution.NameMeaning.TheVariants as res
+use Rattle.pc_scope.specs.declared.resolution.NameMeaning.TheVariants as meaning
 use Rattle.pc_types.specs.Tree.{Tree}
 use Rattle.pc_types.specs.Below.{Bases, Static}
 use Rattle.pc_types.specs.Assignable.{Assignable}
@@ -50,12 +50,12 @@ constant_label (Some t) = clean t
 
 -- the label of a name as a value: a function, a class and a reserved name are in error
 abbrev pub name_label : Context → Env → NameMeaning → Label
-name_label ctx env (res.Local x) = local_label (current env x)
-name_label ctx env (res.Const i) = constant_label (slice_get ctx.constants i)
-name_label ctx env (res.Func i) = if ctx.in_body then in_error E20 else in_error E03
-name_label ctx env (res.Class c) = if nat_lt c ctx.known then in_error E20 else in_error E03
-name_label ctx env (res.Builtin b) = in_error E20
-name_label ctx env res.None = in_error E02
+name_label ctx env (meaning.Local x) = local_label (current env x)
+name_label ctx env (meaning.Const i) = constant_label (slice_get ctx.constants i)
+name_label ctx env (meaning.Func i) = if ctx.in_body then in_error E20 else in_error E03
+name_label ctx env (meaning.Class c) = if nat_lt c ctx.known then in_error E20 else in_error E03
+name_label ctx env (meaning.Builtin b) = in_error E20
+name_label ctx env meaning.None = in_error E02
 
 -- whether the first code of a node is E03, which replaces all other findings at it
 abbrev pub is_early : List Code → Test

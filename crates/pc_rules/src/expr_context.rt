@@ -1,4 +1,4 @@
-//! The setting of an expression: all that its check reads apart from the environment.
+//! The context of an expression: all that its check reads apart from the environment.
 
 use pc_annotations::ModuleOutline;
 use pc_class::{ClassTable, ParameterList};
@@ -31,7 +31,7 @@ pub struct ModuleContext<'m, Ty: Drop> {
     pub keeps: bool,
 }
 
-/// The setting of an expression: the globals it may name, the meanings of names there, and the declared types of the
+/// The context of an expression: the globals it may name, the meanings of names there, and the declared types of the
 /// locals. The environment is separate. Outside function bodies, in an initializer, no function may be called.
 ///
 /// Own rule of the profile.

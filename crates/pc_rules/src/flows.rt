@@ -1,10 +1,10 @@
 //! Flows of a labelled expression into types.
-#![tactic(auto, using(crate::proofs::Checkers::goes_further))]
+#![tactic(auto, using(crate::proofs::TypingStates::goes_further))]
 
 ghost use Rattle.std.specs.Prelude.{◌≡◌, All, IfOk, OnOk, map};
 ghost use Rattle.pc_types.specs.Computed.{static_test, assignable_test};
 ghost use Rattle.pc_types.specs.Store.{KeepsTypes};
-ghost use Rattle.pc_rules.specs.Computed.Checkers.{AddsNotes, CheckerKept};
+ghost use Rattle.pc_rules.specs.Computed.TypingStates.{AddsNotes, StateKept};
 ghost use Rattle.pc_rules.specs.Operations.{Label as LabelOf};
 ghost use Rattle.pc_rules.specs.Context.{is_early};
 ghost use Rattle.pc_rules.specs.Computed.Expressions.{code_unless, flows_of};
@@ -42,25 +42,25 @@ fn flow_code<S: TypeStore>(
 
 /// Appends the finding of a flow with this code, with its two types. E02 and E03 are left to scope analysis.
 fn note_flow<S: TypeStore>(
-    checker: &mut TypingState<'_, S>,
+    state: &mut TypingState<'_, S>,
     place: Place,
     code: Code,
     from: &S::Ty,
     into: &S::Ty,
 ) -> Result<(), OutOfMemory>
-    requires from { S.has checker.old.store.now from.now }
-    requires into { S.has checker.old.store.now into.now }
+    requires from { S.has state.old.store.now from.now }
+    requires into { S.has state.old.store.now into.now }
     ensures found { OnOk result
-        (AddsNotes checker.old checker.new (own_flow place (S.tree from.now) (S.tree into.now) code)) }
-    ensures goes_on { CheckerKept S.TypeStore checker.old checker.new }
+        (AddsNotes state.old state.new (own_flow place (S.tree from.now) (S.tree into.now) code)) }
+    ensures goes_on { StateKept S.TypeStore state.old state.new }
 {
     if is_of_scopes(code) {
         return Ok(());
     }
     let finding = Finding { place, code };
-    checker
+    state
         .found
-        .put_flow(checker.store, checker.alloc, finding, from, into)
+        .put_flow(state.store, state.alloc, finding, from, into)
 }
 
 /// Checks the flow of a labelled expression at `place` into the type `into`. If the flow is not static, appends its
@@ -68,24 +68,24 @@ fn note_flow<S: TypeStore>(
 /// is static, or if the expression is E03. Typing specification, "Type system concepts", assignability; own rule of the
 /// profile.
 pub fn find_flow<S: TypeStore>(
-    checker: &mut TypingState<'_, S>,
+    state: &mut TypingState<'_, S>,
     parents: &Parents,
     place: Place,
     label: &Label<S::Ty>,
     into: &S::Ty,
 ) -> Result<Option<Code>, OutOfMemory>
-    requires label { S.has checker.old.store.now label.now.ty }
-    requires into { S.has checker.old.store.now into.now }
+    requires label { S.has state.old.store.now label.now.ty }
+    requires into { S.has state.old.store.now into.now }
     ensures value { IfOk result
         (λ c. c ≡ code_unless (static_test parents.now) (assignable_test parents.now) (is_early label.now.codes.items)
         (S.tree label.now.ty) (S.tree into.now)) }
     ensures found { IfOk result
-        (λ c. AddsNotes checker.old checker.new (flow_at place (S.tree label.now.ty) (S.tree into.now) c)) }
-    ensures goes_on { CheckerKept S.TypeStore checker.old checker.new }
+        (λ c. AddsNotes state.old state.new (flow_at place (S.tree label.now.ty) (S.tree into.now) c)) }
+    ensures goes_on { StateKept S.TypeStore state.old state.new }
 {
-    let code = flow_code(checker.store, parents, label, into);
+    let code = flow_code(state.store, parents, label, into);
     if let Some(code) = code {
-        note_flow(checker, place, code, &label.ty, into)?;
+        note_flow(state, place, code, &label.ty, into)?;
     }
     Ok(code)
 }
@@ -93,24 +93,24 @@ pub fn find_flow<S: TypeStore>(
 /// Checks the flows of a labelled expression at this place into several types. Appends each code once, for the first
 /// flow that has it.
 pub fn find_flows<S: TypeStore>(
-    checker: &mut TypingState<'_, S>,
+    state: &mut TypingState<'_, S>,
     parents: &Parents,
     place: Place,
     label: &Label<S::Ty>,
     into: &[S::Ty],
 ) -> Result<(), OutOfMemory>
-    requires label { S.has checker.old.store.now label.now.ty }
-    requires into { All (S.has checker.old.store.now) into.now }
+    requires label { S.has state.old.store.now label.now.ty }
+    requires into { All (S.has state.old.store.now) into.now }
     ensures found { (m : LabelOf) → label_with S.tree label.now ≡ brief m
-        → OnOk result (AddsNotes checker.old checker.new (flows_at place (flows_of parents.now m (map S.tree into.now)))) }
-    ensures goes_on { CheckerKept S.TypeStore checker.old checker.new }
+        → OnOk result (AddsNotes state.old state.new (flows_at place (flows_of parents.now m (map S.tree into.now)))) }
+    ensures goes_on { StateKept S.TypeStore state.old state.new }
 {
-    let mut codes = Vec::new(checker.alloc);
+    let mut codes = Vec::new(state.alloc);
     for ty in into {
-        if let Some(code) = flow_code(checker.store, parents, label, ty) {
+        if let Some(code) = flow_code(state.store, parents, label, ty) {
             if !has_code(&codes, code) {
                 codes.push(code)?;
-                note_flow(checker, place, code, &label.ty, ty)?;
+                note_flow(state, place, code, &label.ty, ty)?;
             }
         }
     }

@@ -61,27 +61,27 @@ fn constant_label<S: TypeStore>(
 pub fn name_label<S: TypeStore>(
     store: &mut S,
     alloc: Global,
-    setting: &ExprContext<'_, S::Ty>,
+    context: &ExprContext<'_, S::Ty>,
     env: &Env<S::Ty>,
     name: &Name,
 ) -> Result<Label<S::Ty>, OutOfMemory>
-    requires { HasGivenAll (S.has store.old) S.tree setting.now env.now }
+    requires { HasGivenAll (S.has store.old) S.tree context.now env.now }
     ensures value { IfOk result
         (λ l. MeansLabel S.has S.tree store.new l
-        (name_label (context_with S.tree setting.now) (env_of S.tree env.now)
-        (meanings setting.now.names.now (text_bytes name.now.text)))) }
+        (name_label (context_with S.tree context.now) (env_of S.tree env.now)
+        (meanings context.now.names.now (text_bytes name.now.text)))) }
     ensures kept { KeepsTypes S.has store.old store.new }
 {
-    match setting.names.resolve(name.text.as_str()) {
+    match context.names.resolve(name.text.as_str()) {
         NameMeaning::Local(local) => local_label(store, alloc, env, local),
         NameMeaning::Const(number) => constant_label(
             store,
             alloc,
-            setting.globals.constants,
+            context.globals.constants,
             number,
         ),
         NameMeaning::Func(_) => {
-            let code = if setting.in_body {
+            let code = if context.in_body {
                 Code::E20
             } else {
                 Code::E03
@@ -89,7 +89,7 @@ pub fn name_label<S: TypeStore>(
             in_error(store, alloc, code)
         }
         NameMeaning::Class(class) => {
-            let code = if class < setting.globals.known {
+            let code = if class < context.globals.known {
                 Code::E20
             } else {
                 Code::E03

@@ -35,7 +35,12 @@ fn eval_callee<'m>(
     if let Expr::Name(name) = callee {
         return machine.callee_of_name(alloc, name);
     }
-    if let Expr::Attribute(place, object, method) = callee {
+    if let Expr::Attribute {
+        place,
+        object,
+        name: method,
+    } = callee
+    {
         machine.charge()?;
         let v = eval(machine, alloc, object)?;
         return machine.callee_of_attribute(alloc, *place, v, method.text.as_str());

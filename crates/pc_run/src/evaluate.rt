@@ -52,23 +52,34 @@ fn eval_node<'m>(machine: &mut Machine<'m>, alloc: Global, e: &'m Expr) -> Resul
         Expr::Dict(place, items) => eval_dict(machine, alloc, *place, items),
         Expr::Negative(place, operand) => eval_negative(machine, alloc, *place, operand),
         Expr::Not(place, operand) => eval_not(machine, alloc, *place, operand),
-        Expr::Binary(place, operator, left, right) => {
-            eval_binary(machine, alloc, *place, *operator, left, right)
-        }
-        Expr::Compare(place, operator, left, right) => {
-            eval_compare(machine, alloc, *place, *operator, left, right)
-        }
+        Expr::Binary {
+            place,
+            operator,
+            left,
+            right,
+        } => { eval_binary(machine, alloc, *place, *operator, left, right) }
+        Expr::Compare {
+            place,
+            operator,
+            left,
+            right,
+        } => { eval_compare(machine, alloc, *place, *operator, left, right) }
         Expr::IsNone(place, operand) => eval_none_test(machine, alloc, *place, operand, false),
         Expr::IsNotNone(place, operand) => eval_none_test(machine, alloc, *place, operand, true),
-        Expr::And(place, left, right) => eval_and(machine, alloc, *place, left, right),
-        Expr::Or(place, left, right) => eval_or(machine, alloc, *place, left, right),
-        Expr::Attribute(place, object, field) => {
-            eval_attribute(machine, alloc, *place, object, field)
-        }
-        Expr::Index(place, object, key) => eval_index(machine, alloc, *place, object, key),
-        Expr::Call(place, callee, arguments, by_name) => {
-            eval_call(machine, alloc, *place, callee, arguments, by_name)
-        }
+        Expr::And { place, left, right } => eval_and(machine, alloc, *place, left, right),
+        Expr::Or { place, left, right } => eval_or(machine, alloc, *place, left, right),
+        Expr::Attribute {
+            place,
+            object,
+            name: field,
+        } => { eval_attribute(machine, alloc, *place, object, field) }
+        Expr::Index { place, object, key } => eval_index(machine, alloc, *place, object, key),
+        Expr::Call {
+            place,
+            callee,
+            arguments,
+            keywords: by_name,
+        } => { eval_call(machine, alloc, *place, callee, arguments, by_name) }
     }
 }
 

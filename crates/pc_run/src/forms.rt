@@ -70,7 +70,13 @@ pub fn instance_test<'m>(
 pub fn range_call<'m>(e: &'m Expr) -> Option<(Place, &'m Name, &'m [Expr], &'m [KeywordArgument])>
     ensures { range_seen result ≡ iterable_form (expr_of e.now) }
 {
-    let Expr::Call(place, callee, arguments, by_name) = e else {
+    let Expr::Call {
+        place,
+        callee,
+        arguments,
+        keywords: by_name,
+    } = e
+    else {
         return None;
     };
     let Expr::Name(name) = callee.as_ref() else {

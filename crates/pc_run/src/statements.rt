@@ -63,8 +63,12 @@ fn exec_node<'m>(
             Ok(Completion::Leaves(v))
         }
         StmtKind::Assert(condition, message) => exec_assert(machine, alloc, condition, message),
-        StmtKind::Annotated(_, _, None) => Ok(Completion::Next),
-        StmtKind::Annotated(name, _, Some(e)) => {
+        StmtKind::Annotated { value: None, .. } => Ok(Completion::Next),
+        StmtKind::Annotated {
+            target: name,
+            value: Some(e),
+            ..
+        } => {
             let v = eval(machine, alloc, e)?;
             machine.bind_local(name.text.as_str(), v);
             Ok(Completion::Next)
@@ -72,7 +76,11 @@ fn exec_node<'m>(
         StmtKind::Assign(target, e) => exec_assignment(machine, alloc, target, e),
         StmtKind::Expr(e) => exec_expression(machine, alloc, e),
         StmtKind::While(condition, body) => run_while(machine, alloc, condition, body),
-        StmtKind::For(name, e, body) => {
+        StmtKind::For {
+            target: name,
+            iterable: e,
+            body,
+        } => {
             let over = eval_iterable(machine, alloc, e)?;
             run_for(machine, alloc, over, name.text.as_str(), body)
         }
@@ -158,11 +166,15 @@ fn assign<'m>(
             machine.bind_local(name.text.as_str(), value);
             Ok(Completion::Next)
         }
-        Target::Attribute(place, object, field) => {
+        Target::Attribute {
+            place,
+            object,
+            name: field,
+        } => {
             let o = eval(machine, alloc, object)?;
             machine.store_attribute(alloc, *place, o, field.text.as_str(), value)
         }
-        Target::Index(place, object, key) => {
+        Target::Index { place, object, key } => {
             let o = eval(machine, alloc, object)?;
             let k = eval(machine, alloc, key)?;
             machine.store_item(alloc, *place, o, k, value)

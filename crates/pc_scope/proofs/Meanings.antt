@@ -6,7 +6,7 @@ use Rattle.pc_tree.specs.Tree.{Module, FuncDef, ClassDef}
 use Rattle.pc_scope.specs.declared.resolution.Owner.{Owner}
 use Rattle.pc_scope.specs.declared.resolution.Owner.TheVariants as owners
 use Rattle.pc_scope.specs.declared.resolution.NameMeaning.{NameMeaning}
-use Rattle.pc_scope.specs.declared.resolution.NameMeaning.TheVariants as res
+use Rattle.pc_scope.specs.declared.resolution.NameMeaning.TheVariants as meaning
 use Rattle.pc_scope.specs.Reserved.{builtin_of, beside}
 use Rattle.pc_scope.specs.Bindings.{functions_in, classes_in, methods_in}
 use Rattle.pc_scope.specs.Resolution.{resolve, index_of, or_meaning, local_meaning, builtin_meaning, locals_of}
@@ -48,7 +48,7 @@ pub means : (m : Module) (t : Tables) → AreTables m t → (owner : Owner) (tex
     ≡ resolve m owner text
 means m t are owner text =
     ap (λ (names : List (List ℕ)). or_meaning (local_meaning (index_of text names))
-    (or_meaning (builtin_meaning (builtin_of text)) (or_meaning (beside t.globals text) res.None)))
+    (or_meaning (builtin_meaning (builtin_of text)) (or_meaning (beside t.globals text) meaning.None)))
     (same_locals m t are owner)
     ∙ ap (λ (o : Option NameMeaning). or_meaning (local_meaning (index_of text (locals_of m owner)))
-    (or_meaning (builtin_meaning (builtin_of text)) (or_meaning o res.None))) (are.globals text)
+    (or_meaning (builtin_meaning (builtin_of text)) (or_meaning o meaning.None))) (are.globals text)

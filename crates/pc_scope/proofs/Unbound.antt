@@ -6,7 +6,7 @@ use Rattle.std.proofs.lemmas.Slice.Eq.{bytes_eq-Decides}
 use Rattle.pc_tree.specs.Tree.{FuncDef, Module}
 use Rattle.pc_scope.specs.declared.resolution.Builtin.{Builtin}
 use Rattle.pc_scope.specs.declared.resolution.Owner.{Owner}
-use Rattle.pc_scope.specs.declared.resolution.NameMeaning.TheVariants as res
+use Rattle.pc_scope.specs.declared.resolution.NameMeaning.TheVariants as meaning
 use Rattle.pc_scope.specs.Reserved.{builtin_of, is_builtin_name}
 use Rattle.pc_tree.specs.Stopping.{bound_by}
 use Rattle.pc_scope.specs.Bindings.{texts}
@@ -45,5 +45,5 @@ module _ (word : List ℕ) (reserved : is_builtin_name word ≡ true) where
   none_of m owner = none_of_function owner (function_of m owner)
 
 pub unbound : (m : Module) (owner : Owner) (name : List ℕ) (b : Builtin) → builtin_of name ≡ Some b
-    → resolve m owner name ≡ res.Builtin b
+    → resolve m owner name ≡ meaning.Builtin b
 unbound m owner name b e = rw (none_of name (ap is_some e) m owner) (rw e refl)

@@ -9,7 +9,7 @@ use Rattle.pc_scope.specs.declared.resolution.Builtin.{Builtin}
 use Rattle.pc_scope.specs.declared.resolution.Owner.{Owner}
 use Rattle.pc_scope.specs.declared.resolution.Owner.TheVariants as owners
 use Rattle.pc_scope.specs.declared.resolution.NameMeaning.{NameMeaning}
-use Rattle.pc_scope.specs.declared.resolution.NameMeaning.TheVariants as res
+use Rattle.pc_scope.specs.declared.resolution.NameMeaning.TheVariants as meaning
 use Rattle.pc_scope.specs.Reserved.{builtin_of, is_builtin_name}
 use Rattle.pc_tree.specs.Stopping.{bound_by}
 use Rattle.pc_scope.specs.Bindings.{texts, param_names, classes_in, functions_in, methods_in}
@@ -66,11 +66,11 @@ locals_of m owner = locals_of_function owner (function_of m owner)
 -- the first binding of a name by items, given how many constants, functions and classes come before
 abbrev pub bound_first : (constants functions classes : ℕ) → List Item → List ℕ → Option NameMeaning
 bound_first k f c [] text = None
-bound_first k f c (constant_item p i ∷ rest) text = if bytes_eq i.name.text text then Some (res.Const k)
+bound_first k f c (constant_item p i ∷ rest) text = if bytes_eq i.name.text text then Some (meaning.Const k)
     else bound_first (suc k) f c rest text
-bound_first k f c (def_item p i ∷ rest) text = if bytes_eq i.name.text text then Some (res.Func f)
+bound_first k f c (def_item p i ∷ rest) text = if bytes_eq i.name.text text then Some (meaning.Func f)
     else bound_first k (suc f) c rest text
-bound_first k f c (class_item p i ∷ rest) text = if bytes_eq i.name.text text then Some (res.Class c)
+bound_first k f c (class_item p i ∷ rest) text = if bytes_eq i.name.text text then Some (meaning.Class c)
     else bound_first k f (suc c) rest text
 
 -- a first answer, or else the next
@@ -81,17 +81,17 @@ or_meaning (Some r) next = r
 -- a local as the meaning of a name, if there is one
 abbrev pub local_meaning : Option ℕ → Option NameMeaning
 local_meaning None = None
-local_meaning (Some n) = Some (res.Local n)
+local_meaning (Some n) = Some (meaning.Local n)
 
 -- a built-in as the meaning of a name, if there is one
 abbrev pub builtin_meaning : Option Builtin → Option NameMeaning
 builtin_meaning None = None
-builtin_meaning (Some b) = Some (res.Builtin b)
+builtin_meaning (Some b) = Some (meaning.Builtin b)
 
 -- the meaning of a name at module level, or in a function that does not have it as a local
 abbrev pub resolve_in_module : Module → List ℕ → NameMeaning
 resolve_in_module m text =
-    or_meaning (builtin_meaning (builtin_of text)) (or_meaning (bound_first 0 0 0 m.items text) res.None)
+    or_meaning (builtin_meaning (builtin_of text)) (or_meaning (bound_first 0 0 0 m.items text) meaning.None)
 
 -- the meaning of a name where these are the locals
 abbrev pub resolve_among : Module → (names : List (List ℕ)) → List ℕ → NameMeaning

@@ -6,7 +6,7 @@ use Rattle.pc_scope.specs.declared.resolution.NameMeaning.{NameMeaning}
 use Rattle.pc_scope.specs.Bindings.{texts, param_names, methods_in, functions_in, classes_in}
 use Rattle.pc_scope.specs.declared.resolution.Owner.{Owner}
 use Rattle.pc_scope.specs.declared.resolution.Owner.TheVariants as owners
-use Rattle.pc_scope.specs.declared.resolution.NameMeaning.TheVariants as res
+use Rattle.pc_scope.specs.declared.resolution.NameMeaning.TheVariants as meaning
 use Rattle.pc_scope.specs.Reserved.{builtin_of, beside}
 use Rattle.pc_scope.specs.Resolution.{first_of_each, index_of, bound_first, or_meaning, local_meaning, builtin_meaning}
 
@@ -45,7 +45,7 @@ locals_for t (owners.Method c i) = method_locals (slice_get t.methods c) i
 abbrev pub meaning_by_tables : Tables → Owner → List ℕ → NameMeaning
 meaning_by_tables t owner text =
     or_meaning (local_meaning (index_of text (locals_for t owner)))
-    (or_meaning (builtin_meaning (builtin_of text)) (or_meaning (beside t.globals text) res.None))
+    (or_meaning (builtin_meaning (builtin_of text)) (or_meaning (beside t.globals text) meaning.None))
 
 -- the tables are those of the module
 pub record AreTables (m : Module) (t : Tables) : Type 0 where

@@ -46,6 +46,23 @@ fn bind_all(locals: &mut Locals, alloc: Global, names: &[&Name]) -> Result<(), O
     Ok(())
 }
 
+/// Binds `self` of a method, the parameters and the names that a body binds as locals.
+fn bind_locals(
+    locals: &mut Locals,
+    alloc: Global,
+    is_method: bool,
+    params: &[Param],
+    names: &[&Name],
+) -> Result<(), OutOfMemory>
+    ensures { OnOk result (locals_in locals.new ≡ fold with_new_local (fold with_new_local
+        (fold with_new_local (locals_in locals.old) (self_before is_method))
+        (texts (param_names (map param_of params.now)))) (texts (map name_seen names.now))) }
+{
+    bind_self(locals, alloc, is_method)?;
+    bind_parameters(locals, alloc, params)?;
+    bind_all(locals, alloc, names)
+}
+
 /// Returns the locals of a function: `self` of a method, the parameters, and the names that its body binds. Language
 /// Reference 4.2.1 "Binding of names".
 fn locals(alloc: Global, keys: Keys, is_method: bool, def: &FuncDef) -> Result<Locals, OutOfMemory>
@@ -54,9 +71,7 @@ fn locals(alloc: Global, keys: Keys, is_method: bool, def: &FuncDef) -> Result<L
     let mut names = Vec::new(alloc);
     add_bound(&mut names, &def.body)?;
     let mut locals = Locals::new(alloc, keys, def.params.len(), names.len())?;
-    bind_self(&mut locals, alloc, is_method)?;
-    bind_parameters(&mut locals, alloc, &def.params)?;
-    bind_all(&mut locals, alloc, &names)?;
+    bind_locals(&mut locals, alloc, is_method, &def.params, &names)?;
     Ok(locals)
 }
 

@@ -10,7 +10,7 @@ use Rattle.pc_tree.specs.NamesAlone.{name_of_tree}
 use Rattle.pc_tree.specs.Stopping.{one_if}
 use Rattle.pc_tree.proofs.Among.{none_among, first_among, later_among, among_first, either}
 use Rattle.pc_scope.specs.declared.resolution.NameMeaning.{NameMeaning}
-use Rattle.pc_scope.specs.declared.resolution.NameMeaning.TheVariants as res
+use Rattle.pc_scope.specs.declared.resolution.NameMeaning.TheVariants as meaning
 use Rattle.pc_scope.specs.Expressions.{parts_in, other_callee}
 use Rattle.pc_scope_findings.specs.Findings.{IsEarlyMeaning}
 use Rattle.pc_scope_findings.specs.Internal.FindingLists.{means_nothing, unknown_at, unknown_among, unknown_in}
@@ -24,13 +24,13 @@ to_one : (b : Bool) (p : Place) → b ≡ true → Contains (one_if b p) p
 to_one true p e = first_among p []
 to_one false p e = absurd (grind (arith, e))
 
-nothing_is : (r : NameMeaning) → means_nothing r ≡ true → r ≡ res.None
-nothing_is (res.Local n) e = absurd (grind (arith, e))
-nothing_is (res.Const n) e = absurd (grind (arith, e))
-nothing_is (res.Func n) e = absurd (grind (arith, e))
-nothing_is (res.Class n) e = absurd (grind (arith, e))
-nothing_is (res.Builtin b) e = absurd (grind (arith, e))
-nothing_is res.None e = refl
+nothing_is : (r : NameMeaning) → means_nothing r ≡ true → r ≡ meaning.None
+nothing_is (meaning.Local n) e = absurd (grind (arith, e))
+nothing_is (meaning.Const n) e = absurd (grind (arith, e))
+nothing_is (meaning.Func n) e = absurd (grind (arith, e))
+nothing_is (meaning.Class n) e = absurd (grind (arith, e))
+nothing_is (meaning.Builtin b) e = absurd (grind (arith, e))
+nothing_is meaning.None e = refl
 
 -- ---- names among expressions
 
@@ -38,7 +38,7 @@ nothing_is res.None e = refl
 pub record IsUnknownAmong (resolve : List ℕ → NameMeaning) (es : List Expr) (p : Place) : Type 0 where
   pub n : Name
   pub named : Contains (filter_map name_of_tree es) n
-  pub unknown : resolve n.text ≡ res.None
+  pub unknown : resolve n.text ≡ meaning.None
   pub is : n.place ≡ p
 
 module _ (resolve : List ℕ → NameMeaning) where
@@ -70,7 +70,7 @@ module _ (resolve : List ℕ → NameMeaning) where
         is = r.is;
       })
 
-  pub to_unknown : (es : List Expr) (n : Name) → Contains (filter_map name_of_tree es) n → resolve n.text ≡ res.None
+  pub to_unknown : (es : List Expr) (n : Name) → Contains (filter_map name_of_tree es) n → resolve n.text ≡ meaning.None
       → Contains (unknown_among resolve es) n.place
   to_unknown [] n h none = absurd (none_among n h)
   to_unknown (e ∷ es) n h none = go (name_of_tree e) h (λ rest. to_unknown es n rest none)
@@ -112,20 +112,20 @@ module _ (resolve : List ℕ → NameMeaning) where
 -- ---- names too early
 
 early_is : (k c : ℕ) (r : NameMeaning) → is_early_meaning k c r ≡ true → IsEarlyMeaning k c r
-early_is k c (res.Local n) e = absurd (grind (arith, e))
-early_is k c (res.Const n) e = grind (arith, nat_tests, e)
-early_is k c (res.Func n) e = tt
-early_is k c (res.Class n) e = grind (arith, nat_tests, e)
-early_is k c (res.Builtin b) e = absurd (grind (arith, e))
-early_is k c res.None e = absurd (grind (arith, e))
+early_is k c (meaning.Local n) e = absurd (grind (arith, e))
+early_is k c (meaning.Const n) e = grind (arith, nat_tests, e)
+early_is k c (meaning.Func n) e = tt
+early_is k c (meaning.Class n) e = grind (arith, nat_tests, e)
+early_is k c (meaning.Builtin b) e = absurd (grind (arith, e))
+early_is k c meaning.None e = absurd (grind (arith, e))
 
 to_early_is : (k c : ℕ) (r : NameMeaning) → IsEarlyMeaning k c r → is_early_meaning k c r ≡ true
-to_early_is k c (res.Local n) e = absurd e
-to_early_is k c (res.Const n) e = grind (arith, nat_tests, e)
-to_early_is k c (res.Func n) e = refl
-to_early_is k c (res.Class n) e = grind (arith, nat_tests, e)
-to_early_is k c (res.Builtin b) e = absurd e
-to_early_is k c res.None e = absurd e
+to_early_is k c (meaning.Local n) e = absurd e
+to_early_is k c (meaning.Const n) e = grind (arith, nat_tests, e)
+to_early_is k c (meaning.Func n) e = refl
+to_early_is k c (meaning.Class n) e = grind (arith, nat_tests, e)
+to_early_is k c (meaning.Builtin b) e = absurd e
+to_early_is k c meaning.None e = absurd e
 
 -- a name among expressions that an initializer uses too early
 pub record IsEarlyAmong (k c : ℕ) (resolve : List ℕ → NameMeaning) (es : List Expr) (p : Place) : Type 0 where

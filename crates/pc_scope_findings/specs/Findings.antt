@@ -12,7 +12,7 @@ use Rattle.pc_tree.specs.NamesAlone.{name_of_tree}
 use Rattle.pc_scope.specs.declared.resolution.Owner.{Owner}
 use Rattle.pc_scope.specs.declared.resolution.Owner.TheVariants as owners
 use Rattle.pc_scope.specs.declared.resolution.NameMeaning.{NameMeaning}
-use Rattle.pc_scope.specs.declared.resolution.NameMeaning.TheVariants as res
+use Rattle.pc_scope.specs.declared.resolution.NameMeaning.TheVariants as meaning
 use Rattle.pc_scope.specs.Bindings.{constants_in, classes_in, Body, bodies}
 use Rattle.pc_scope.specs.Resolution.{resolve, resolve_in_module}
 use Rattle.pc_scope.specs.Expressions.{parts_in, other_callee, exprs_in_all}
@@ -31,7 +31,7 @@ IsScopeCode _ = ⊥
 pub record IsUnknownIn (m : Module) (owner : Owner) (e : Expr) (f : Finding) : Type 0 where
   pub n : Name
   pub named : Contains (filter_map name_of_tree (parts_in true e)) n
-  pub unknown : resolve m owner n.text ≡ res.None
+  pub unknown : resolve m owner n.text ≡ meaning.None
   pub is : f ≡ finding n.place E02
 
 -- E02: a name in an expression means nothing, or the header does not import the decorator `dataclass`
@@ -46,9 +46,9 @@ pub data IsUnknown (m : Module) (f : Finding) : Type 0 where
 -- an initializer after this many constants and classes may not use a function, a later constant or class, or its own
 -- constant
 abbrev pub IsEarlyMeaning : (constants classes : ℕ) → NameMeaning → Type 0
-IsEarlyMeaning k c (res.Func i) = Unit {0}
-IsEarlyMeaning k c (res.Const i) = k ≤ i
-IsEarlyMeaning k c (res.Class i) = c ≤ i
+IsEarlyMeaning k c (meaning.Func i) = Unit {0}
+IsEarlyMeaning k c (meaning.Const i) = k ≤ i
+IsEarlyMeaning k c (meaning.Class i) = c ≤ i
 IsEarlyMeaning k c _ = ⊥
 
 -- an initializer uses a name that it may not use after this many constants and classes

@@ -19,11 +19,11 @@ pub fn completes(kind: &StmtKind) -> bool
         StmtKind::Continue => false,
         StmtKind::Return(_) => false,
         StmtKind::Assert(_, _) => true,
-        StmtKind::Annotated(_, _, _) => true,
+        StmtKind::Annotated { .. } => true,
         StmtKind::Assign(_, _) => true,
         StmtKind::Expr(_) => true,
         StmtKind::While(_, _) => true,
-        StmtKind::For(_, _, _) => true,
+        StmtKind::For { .. } => true,
         StmtKind::If(branches, otherwise) => {
             if otherwise.is_empty() {
                 return true;

@@ -130,7 +130,7 @@ fn find_other_callee(found: &mut Findings, e: &Expr) -> Result<(), OutOfMemory>
     ensures { OnOk result (found.new.items
         ≡ found.old.items ++ at_code E03 (callee_at (other_callee (expr_of e.now)))) }
 {
-    let Expr::Call(_, callee, _, _) = e else {
+    let Expr::Call { callee, .. } = e else {
         return Ok(());
     };
     if is_name(callee) {
@@ -193,20 +193,31 @@ fn seek_inside(
         Expr::Not(_, operand) => seek(found, scopes, sought, operand),
         Expr::IsNone(_, operand) => seek(found, scopes, sought, operand),
         Expr::IsNotNone(_, operand) => seek(found, scopes, sought, operand),
-        Expr::Attribute(_, object, _) => seek(found, scopes, sought, object),
-        Expr::Binary(_, _, left, right) => {
+        Expr::Attribute { object, .. } => seek(found, scopes, sought, object),
+        Expr::Binary { left, right, .. } => {
             seek(found, scopes, sought, left)?;
             seek(found, scopes, sought, right)
         }
-        Expr::Compare(_, _, left, right) => {
+        Expr::Compare { left, right, .. } => {
             seek(found, scopes, sought, left)?;
             seek(found, scopes, sought, right)
         }
-        Expr::And(_, left, right) | Expr::Or(_, left, right) | Expr::Index(_, left, right) => {
+        Expr::And { left, right, .. }
+        | Expr::Or { left, right, .. }
+        | Expr::Index {
+            object: left,
+            key: right,
+            ..
+        } => {
             seek(found, scopes, sought, left)?;
             seek(found, scopes, sought, right)
         }
-        Expr::Call(_, callee, arguments, by_name) => {
+        Expr::Call {
+            callee,
+            arguments,
+            keywords: by_name,
+            ..
+        } => {
             seek(found, scopes, sought, callee)?;
             let first_alone = passes_over(sought, callee, arguments, by_name);
             seek_all(found, scopes, sought, first_alone, arguments)?;

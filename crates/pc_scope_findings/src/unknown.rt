@@ -66,8 +66,8 @@ fn find_unknown_in_target(
 {
     match target {
         Target::Name(_) => Ok(()),
-        Target::Attribute(_, object, _) => find_unknown(found, scopes, owner, object),
-        Target::Index(_, object, key) => {
+        Target::Attribute { object, .. } => find_unknown(found, scopes, owner, object),
+        Target::Index { object, key, .. } => {
             find_unknown(found, scopes, owner, object)?;
             find_unknown(found, scopes, owner, key)
         }
@@ -117,7 +117,7 @@ fn find_unknown_in_statement(
             find_unknown(found, scopes, owner, condition)?;
             find_unknown_in_option(found, scopes, owner, message)
         }
-        StmtKind::Annotated(_, _, value) => find_unknown_in_option(found, scopes, owner, value),
+        StmtKind::Annotated { value, .. } => find_unknown_in_option(found, scopes, owner, value),
         StmtKind::Assign(target, value) => {
             find_unknown(found, scopes, owner, value)?;
             find_unknown_in_target(found, scopes, owner, target)
@@ -127,7 +127,7 @@ fn find_unknown_in_statement(
             find_unknown(found, scopes, owner, condition)?;
             find_unknown_in_body(found, scopes, owner, body)
         }
-        StmtKind::For(_, iterable, body) => {
+        StmtKind::For { iterable, body, .. } => {
             find_unknown(found, scopes, owner, iterable)?;
             find_unknown_in_body(found, scopes, owner, body)
         }

@@ -16,6 +16,7 @@ use Rattle.pc_documents.specs.Documents.{document_at, is_open, without_document,
 use Rattle.pc_documents.specs.Hovers.{IsShownAtByte, IsShownAt, IsToldOf, IsToldAs, hover_text}
 use Rattle.pc_documents.specs.Definitions.{AreDefinitionsAs}
 use Rattle.pc_documents.specs.Symbols.{AreSymbolsAs}
+use Rattle.pc_documents.proofs.Declaring.{one_declaration}
 use Rattle.pc_documents.proofs.Defining.{same_definitions}
 use Rattle.pc_documents.proofs.Listing.{same_symbols}
 use Rattle.pc_documents.proofs.Saying.{same_diagnostics, same_hovers}
@@ -203,10 +204,12 @@ module _ (answers : List ℕ → CheckerAnswer → Type 0) (same : IsDetermined 
       → IsToldOf answers text position agreed a → IsToldOf answers text position agreed b → a ≡ b
   one_told_of None position agreed a b x y = x ∙ sym y
   one_told_of (Some text) position agreed a b x y =
-      x.are ∙ (same_hovers agreed text position x.type x.found y.found
+      x.are ∙ (same_hovers agreed text position x.type x.declaration x.found y.found
       (same text (outcome x.found) (outcome y.found) x.finds_it y.finds_it)
-      ∙ (ap (λ (t : Option (List ℕ)). hover_text agreed text y.found t position)
-      (one_type agreed.encoding text position x.type y.type x.shows_it y.shows_it) ∙ sym y.are))
+      ∙ (ap₂ (λ (t d : Option (List ℕ)). hover_text agreed text y.found t d position)
+      (one_type agreed.encoding text position x.type y.type x.shows_it y.shows_it)
+      (one_declaration agreed.encoding text position x.declaration y.declaration x.declares_it y.declares_it)
+      ∙ sym y.are))
 
   one_told_as : (python : Bool) (text : Option (List ℕ)) (position : Position) (agreed : Agreed) (a b : List ℕ)
       → IsToldAs answers python text position agreed a → IsToldAs answers python text position agreed b → a ≡ b

@@ -20,7 +20,7 @@ escape_after Outside byte = if byte == 92 then Backslash else Outside
 escape_after Backslash byte = if byte == 117 then Unicode else Outside
 escape_after Unicode byte = Outside
 
--- a byte, mended: a first digit `d` of an escape becomes `e`, so that no escape stands for half a character
+-- a byte, mended: a first digit `d` of an escape becomes `e`, so that no escape denotes half a character
 abbrev pub mended_byte : Escape → ℕ → ℕ
 mended_byte Outside byte = byte
 mended_byte Backslash byte = byte

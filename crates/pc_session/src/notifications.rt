@@ -12,7 +12,7 @@ ghost use Rattle.pc_session.specs.States.{state_of};
 use crate::messages::{LspMethod, changed_text, is_older, opened_text, uri_in, version_in};
 use crate::published::published;
 use crate::replies::{log, publish};
-use crate::requests::named;
+use crate::requests::named_document;
 use crate::session::{Answer, Session, SessionChange, Stage};
 use crate::settings::{copied_text, is_python};
 use pc_documents::{Checker, Document, index_of_document};
@@ -154,7 +154,7 @@ fn changed<C: Checker>(
     ensures { IfOk result (λ a. OnChange (C.answers checker.now) (view message.now) (state_of session.now)
         (map view a.replies.items) (after a.change (state_of session.now))) }
 {
-    let Some(document) = named(session, message) else {
+    let Some(document) = named_document(session, message) else {
         let answer = unchanged(session, checker, alloc, message)?;
         return Ok(answer);
     };

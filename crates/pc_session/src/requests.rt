@@ -39,7 +39,7 @@ pub(crate) fn refused(
 }
 
 /// Returns the open document that a message names, if any.
-pub(crate) fn named<'a>(session: &'a Session, message: &Value) -> Option<&'a Document>
+pub(crate) fn named_document<'a>(session: &'a Session, message: &Value) -> Option<&'a Document>
     ensures { option_map (λ d. opened_of d.now) result ≡ named_document (view message.now) (state_of session.now) }
 {
     let uri = uri_in(message)?;
@@ -57,7 +57,7 @@ fn hovered<C: Checker>(
     ensures { IfOk result (λ v. IsHovered (C.answers checker.now) (view message.now) (view id.now)
         (state_of session.now) (view v)) }
 {
-    let Some(document) = named(session, message) else {
+    let Some(document) = named_document(session, message) else {
         let refused = error_reply(alloc, id, ErrorCode::InvalidParams)?;
         return Ok(refused);
     };
@@ -82,7 +82,7 @@ fn pulled<C: Checker>(
     ensures { IfOk result (λ v. IsPulled (C.answers checker.now) (view message.now) (view id.now)
         (state_of session.now) (view v)) }
 {
-    let Some(document) = named(session, message) else {
+    let Some(document) = named_document(session, message) else {
         let refused = error_reply(alloc, id, ErrorCode::InvalidParams)?;
         return Ok(refused);
     };
@@ -101,7 +101,7 @@ fn listed(
 ) -> Result<Value, OutOfMemory>
     ensures { IfOk result (λ v. IsSymbolReply (view message.now) (view id.now) (state_of session.now) (view v)) }
 {
-    let Some(document) = named(session, message) else {
+    let Some(document) = named_document(session, message) else {
         let refused = error_reply(alloc, id, ErrorCode::InvalidParams)?;
         return Ok(refused);
     };
@@ -120,7 +120,7 @@ fn located(
 ) -> Result<Value, OutOfMemory>
     ensures { IfOk result (λ v. IsLocated (view message.now) (view id.now) (state_of session.now) (view v)) }
 {
-    let Some(document) = named(session, message) else {
+    let Some(document) = named_document(session, message) else {
         let refused = error_reply(alloc, id, ErrorCode::InvalidParams)?;
         return Ok(refused);
     };

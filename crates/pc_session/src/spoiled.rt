@@ -10,7 +10,7 @@ ghost use Rattle.pc_session.specs.Spoiled.{spoiled_as, spoiled_in, IsMended, Spo
 ghost use Rattle.pc_session.specs.States.{state_of};
 
 use crate::messages::{LspMethod, method_in, uri_in, version_in};
-use crate::requests::named;
+use crate::requests::named_document;
 use crate::session::{Session, Stage};
 use crate::settings::is_python;
 use pc_documents::Document;
@@ -131,7 +131,7 @@ fn spoiled_by(
             None => Ok(None),
             Some(uri) => Ok(Some(opened_part(alloc, message, uri)?)),
         },
-        LspMethod::DidChange => match named(session, message) {
+        LspMethod::DidChange => match named_document(session, message) {
             None => Ok(None),
             Some(document) => Ok(Some(changed_part(alloc, message, document)?)),
         },

@@ -88,68 +88,68 @@ module _ (d : NameMaps) (map : ℕ) (names : List (List ℕ)) (name : List ℕ)
       go true e (Some i) f = let g = sym none ∙ ap is_some (ap (named_at d map)
           (sym ((bytes_eq-Decides word name).0 e)) ∙ h word ∙ f) in absurd (grind (arith, g))
 
--- ---- one seat more
+-- ---- one list place more
 
-module _ (s t : SharedLists) (named : KeepsNamed s.named t.named) (placed : KeepsMaps s.placed t.placed) (seat : ListPlace)
-    (seats : t.seats.items ≡ s.seats.items ++ seat ∷ []) where
+module _ (s t : SharedLists) (named : KeepsNamed s.named t.named) (placed : KeepsMaps s.placed t.placed) (list_place : ListPlace)
+    (list_places : t.list_places.items ≡ s.list_places.items ++ list_place ∷ []) where
   module _ (l : SharedList) (r : HasRoom s l) where
-    held_kept : (place : ℕ) → held_at t.placed l.seats place ≡ held_at s.placed l.seats place
-    held_kept place = placed.same l.seats place r.placed
+    held_kept : (place : ℕ) → held_at t.placed l.list_places place ≡ held_at s.placed l.list_places place
+    held_kept place = placed.same l.list_places place r.placed
 
     room_kept : HasRoom t l
     room_kept = record {
       named = let a = r.named in let b = named.more in omega (arith, a, b);
       placed = let a = r.placed in let b = placed.more in omega (arith, a, b);
-      seated = let a = r.seated in let b = ap length seats in let c = length-append s.seats.items (seat ∷ []) in
+      has_places = let a = r.has_places in let b = ap length list_places in let c = length-append s.list_places.items (list_place ∷ []) in
           omega (arith, a, b, c);
-      numbered = λ place. subst (IsNumberIn t.seats.items) (sym (held_kept place))
-          (subst (λ (xs : List ListPlace). IsNumberIn xs (held_at s.placed l.seats place)) (sym seats)
-          (within_left s.seats.items (seat ∷ []) (held_at s.placed l.seats place) (r.numbered place)));
+      numbered = λ place. subst (IsNumberIn t.list_places.items) (sym (held_kept place))
+          (subst (λ (xs : List ListPlace). IsNumberIn xs (held_at s.placed l.list_places place)) (sym list_places)
+          (within_left s.list_places.items (list_place ∷ []) (held_at s.placed l.list_places place) (r.numbered place)));
     }
 
-    seat_kept : (place : ℕ) → list_place_at t l place ≡ list_place_at s l place
-    seat_kept place = ap (at_number t.seats.items) (held_kept place)
-        ∙ ap (λ (xs : List ListPlace). at_number xs (held_at s.placed l.seats place)) seats
-        ∙ at_left s.seats.items (seat ∷ []) (held_at s.placed l.seats place) (r.numbered place)
+    list_place_kept : (place : ℕ) → list_place_at t l place ≡ list_place_at s l place
+    list_place_kept place = ap (at_number t.list_places.items) (held_kept place)
+        ∙ ap (λ (xs : List ListPlace). at_number xs (held_at s.placed l.list_places place)) list_places
+        ∙ at_left s.list_places.items (list_place ∷ []) (held_at s.placed l.list_places place) (r.numbered place)
 
   -- the lists that were there stay
   pub lists_kept : KeepsLists s t
   lists_kept = record {
     room = room_kept;
     names = λ l word r. named.same l.names word r.named;
-    seats = λ l place r. seat_kept l r place;
+    list_places = λ l place r. list_place_kept l r place;
   }
 
   -- the list that is built
-  module _ (l m : SharedList) (r : HasRoom s l) (is_map : IsMap t.named m.names) (within : m.seats < length t.placed)
+  module _ (l m : SharedList) (r : HasRoom s l) (is_map : IsMap t.named m.names) (within : m.list_places < length t.placed)
       (count : m.count ≡ l.count + 1)
-      (put : (k : ℕ) → held_at t.placed m.seats k
-      ≡ (if k == l.count then Some (length s.seats.items) else held_at s.placed l.seats k)) where
+      (put : (k : ℕ) → held_at t.placed m.list_places k
+      ≡ (if k == l.count then Some (length s.list_places.items) else held_at s.placed l.list_places k)) where
     number_more : (k : ℕ) (b : Bool)
-        → IsNumberIn (s.seats.items ++ seat ∷ [])
-        (if b then Some (length s.seats.items) else held_at s.placed l.seats k)
-    number_more k true = let e = length-append s.seats.items (seat ∷ []) in omega (arith, e)
-    number_more k false = within_left s.seats.items (seat ∷ []) (held_at s.placed l.seats k) (r.numbered k)
+        → IsNumberIn (s.list_places.items ++ list_place ∷ [])
+        (if b then Some (length s.list_places.items) else held_at s.placed l.list_places k)
+    number_more k true = let e = length-append s.list_places.items (list_place ∷ []) in omega (arith, e)
+    number_more k false = within_left s.list_places.items (list_place ∷ []) (held_at s.placed l.list_places k) (r.numbered k)
 
     pub room_more : HasRoom t m
     room_more = record {
       named = is_map;
       placed = within;
-      seated = let a = r.seated in let b = ap length seats in let c = length-append s.seats.items (seat ∷ []) in
+      has_places = let a = r.has_places in let b = ap length list_places in let c = length-append s.list_places.items (list_place ∷ []) in
           omega (arith, a, b, c, count);
-      numbered = λ k. subst (IsNumberIn t.seats.items) (sym (put k))
-          (subst (λ (xs : List ListPlace). IsNumberIn xs (if k == l.count then Some (length s.seats.items)
-          else held_at s.placed l.seats k)) (sym seats) (number_more k (k == l.count)));
+      numbered = λ k. subst (IsNumberIn t.list_places.items) (sym (put k))
+          (subst (λ (xs : List ListPlace). IsNumberIn xs (if k == l.count then Some (length s.list_places.items)
+          else held_at s.placed l.list_places k)) (sym list_places) (number_more k (k == l.count)));
     }
 
-    seat_end : (k : ℕ) (b : Bool) → at_number (s.seats.items ++ seat ∷ [])
-        (if b then Some (length s.seats.items) else held_at s.placed l.seats k)
-        ≡ (if b then Some seat else list_place_at s l k)
-    seat_end k true = get_end s.seats.items seat
-    seat_end k false = at_left s.seats.items (seat ∷ []) (held_at s.placed l.seats k) (r.numbered k)
+    list_place_end : (k : ℕ) (b : Bool) → at_number (s.list_places.items ++ list_place ∷ [])
+        (if b then Some (length s.list_places.items) else held_at s.placed l.list_places k)
+        ≡ (if b then Some list_place else list_place_at s l k)
+    list_place_end k true = get_end s.list_places.items list_place
+    list_place_end k false = at_left s.list_places.items (list_place ∷ []) (held_at s.placed l.list_places k) (r.numbered k)
 
-    pub seat_more : (k : ℕ) → list_place_at t m k ≡ (if k == l.count then Some seat else list_place_at s l k)
-    seat_more k = ap (at_number t.seats.items) (put k)
-        ∙ ap (λ (xs : List ListPlace). at_number xs (if k == l.count then Some (length s.seats.items)
-        else held_at s.placed l.seats k)) seats
-        ∙ seat_end k (k == l.count)
+    pub list_place_more : (k : ℕ) → list_place_at t m k ≡ (if k == l.count then Some list_place else list_place_at s l k)
+    list_place_more k = ap (at_number t.list_places.items) (put k)
+        ∙ ap (λ (xs : List ListPlace). at_number xs (if k == l.count then Some (length s.list_places.items)
+        else held_at s.placed l.list_places k)) list_places
+        ∙ list_place_end k (k == l.count)

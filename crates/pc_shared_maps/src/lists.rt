@@ -3,7 +3,7 @@
 ghost use Rattle.std.specs.Prelude.{◌≡◌, ◌+◌, ◌++◌, ◌∷◌, ◌==◌, [], ℕ, List, length, if◌then◌else◌, None, Some, IfOk};
 ghost use Rattle.std.specs.Prelude.{OnOk};
 ghost use Rattle.pc_scope.specs.Resolution.{index_of};
-ghost use Rattle.pc_shared_maps.specs.declared.lists.ListPlace.{ListPlace as SeatOf};
+ghost use Rattle.pc_shared_maps.specs.declared.lists.ListPlace.{ListPlace as ListPlaceOf};
 ghost use Rattle.pc_shared_maps.specs.NameMaps.{IsMap, named_at, KeepsNamed};
 ghost use Rattle.pc_shared_maps.specs.SharedLists.{empty_list, place_at, list_place_at, needed_at, HasRoom, AreNamed, KeepsLists};
 
@@ -21,13 +21,13 @@ pub struct ListPlace {
 }
 
 /// A list of items: their number, the end of the needed ones, and the maps from each name to its first place and from
-/// each place to its seat.
+/// each place to its list place.
 #[derive(Clone, Copy)]
 pub struct SharedList {
     pub count: usize,
     pub needed: usize,
     pub names: usize,
-    pub seats: usize,
+    pub list_places: usize,
 }
 
 /// The storage of lists. Each list is built on an earlier one, which is kept.
@@ -35,7 +35,7 @@ pub struct SharedList {
 pub struct SharedLists {
     pub named: NamedMaps,
     pub placed: SharedMaps,
-    pub seats: Vec<ListPlace>,
+    pub list_places: Vec<ListPlace>,
 }
 
 /// Returns the map with the place of one name more, or `map` itself if it has an earlier place for the name.
@@ -69,7 +69,7 @@ impl SharedList {
             count: 0,
             needed: 0,
             names: 0,
-            seats: 0,
+            list_places: 0,
         }
     }
 }
@@ -79,14 +79,14 @@ impl SharedLists {
     pub fn new(alloc: Global, keys: Keys) -> Result<SharedLists, OutOfMemory>
         ensures room { IfOk result (λ s. HasRoom s empty_list) }
         ensures names { IfOk result (λ s. AreNamed s empty_list []) }
-        ensures seats { IfOk result (λ s. (place : ℕ) → list_place_at s empty_list place ≡ None) }
+        ensures list_places { IfOk result (λ s. (place : ℕ) → list_place_at s empty_list place ≡ None) }
     {
         let named = NamedMaps::new(alloc, keys)?;
         let placed = SharedMaps::new(alloc)?;
         Ok(SharedLists {
             named,
             placed,
-            seats: Vec::new(alloc),
+            list_places: Vec::new(alloc),
         })
     }
 
@@ -107,13 +107,16 @@ impl SharedLists {
         ensures needed { IfOk result (λ new. new.needed ≡ (if needed then list.count + 1 else list.needed)) }
         ensures names { IfOk result (λ new. (names : List (List ℕ)) → AreNamed self.old list names
             → list.count ≡ length names → AreNamed self.new new (names ++ name.now ∷ [])) }
-        ensures seats { IfOk result (λ new. (place : ℕ) → list_place_at self.new new place
-            ≡ (if place == list.count then Some (let s : SeatOf = record { number = number; needed = list.needed } in s)
+        ensures list_places { IfOk result (λ new. (place : ℕ) → list_place_at self.new new place
+            ≡ (if place == list.count
+            then Some (let s : ListPlaceOf = record { number = number; needed = list.needed } in s)
             else list_place_at self.old list place)) }
     {
         let names = add_name(&mut self.named, alloc, list.names, name, list.count)?;
-        let seats = self.placed.put(list.seats, list.count, self.seats.len())?;
-        self.seats.push(ListPlace {
+        let list_places = self
+            .placed
+            .put(list.list_places, list.count, self.list_places.len())?;
+        self.list_places.push(ListPlace {
             number,
             needed: list.needed,
         })?;
@@ -123,7 +126,7 @@ impl SharedLists {
             count,
             needed,
             names,
-            seats,
+            list_places,
         })
     }
 
@@ -135,13 +138,13 @@ impl SharedLists {
         self.named.get(list.names, name)
     }
 
-    /// Returns the seat at a place of a list.
-    pub fn seat(&self, list: SharedList, place: usize) -> Option<ListPlace>
+    /// Returns the list place at a place of a list.
+    pub fn list_place(&self, list: SharedList, place: usize) -> Option<ListPlace>
         requires { HasRoom self.now list }
         ensures { result ≡ list_place_at self.now list place }
     {
-        let number = self.placed.get(list.seats, place)?;
-        self.seats.get(number).copied()
+        let number = self.placed.get(list.list_places, place)?;
+        self.list_places.get(number).copied()
     }
 
     /// Returns the end of the needed items before a place of a list.
@@ -149,8 +152,8 @@ impl SharedLists {
         requires { HasRoom self.now list }
         ensures { result ≡ needed_at self.now list place }
     {
-        match self.seat(list, place) {
-            Some(seat) => seat.needed,
+        match self.list_place(list, place) {
+            Some(list_place) => list_place.needed,
             None => list.needed,
         }
     }

@@ -1,10 +1,10 @@
--- The standing of an initializer, by a setting of the program.
+-- The standing of an initializer, by its context in the program.
 use Rattle.std.proofs.Common.{◌≡◌, ℕ, List, [], ap}
 use Rattle.std.specs.Prelude.{Bool as Test, false}
 use Rattle.pc_tree.specs.Tree.{Module}
 use Rattle.pc_scope.specs.declared.resolution.Owner.TheVariants as owners
 use Rattle.pc_scope.specs.declared.resolution.NameMeaning.{NameMeaning}
-use Rattle.pc_scope.specs.declared.resolution.NameMeaning.TheVariants as res
+use Rattle.pc_scope.specs.declared.resolution.NameMeaning.TheVariants as meaning
 use Rattle.pc_scope.specs.Reserved.{builtin_of}
 use Rattle.pc_scope.specs.Resolution.{or_meaning, builtin_meaning, resolve_in_module}
 use Rattle.pc_scope.specs.Tables.{Tables, AreTables, meaning_by_tables}
@@ -21,7 +21,7 @@ use Rattle.pc_rules.specs.Computed.Standing.{Standing}
 module _ (m : Module) where
   -- names mean to the module what its tables say
   pub module_names : (t : Tables) → AreTables m t → meaning_by_tables t owners.Module ≡ resolve_in_module m
-  module_names t are = λ j text. (ap (λ r. or_meaning (builtin_meaning (builtin_of text)) (or_meaning r res.None))
+  module_names t are = λ j text. (ap (λ r. or_meaning (builtin_meaning (builtin_of text)) (or_meaning r meaning.None))
       (are.globals text)) j
 
   -- the standing of an initializer, part by part

@@ -1,5 +1,5 @@
 //! The signatures and constants of a module.
-#![tactic(auto, using(pc_rules::proofs::Checkers::goes_further))]
+#![tactic(auto, using(pc_rules::proofs::TypingStates::goes_further))]
 
 ghost use Rattle.std.specs.Prelude.{◌≡◌, map, slice_get, IfOk, OnOk};
 ghost use Rattle.std.specs.Option.{option_copied};
@@ -11,7 +11,7 @@ ghost use Rattle.pc_rules.specs.Computed.Signatures.{constants_of, method_signat
 ghost use Rattle.pc_signatures.specs.SignaturesHeld.{HeldSignatures, methods_seen, method_numbered, HasSigned};
 ghost use Rattle.pc_signatures.specs.SignaturesHeld.{all_signatures_with};
 ghost use Rattle.pc_rules.specs.Computed.Standing.{signature_with};
-ghost use Rattle.pc_rules.specs.Computed.Checkers.{AddsNotes, CheckerKept};
+ghost use Rattle.pc_rules.specs.Computed.TypingStates.{AddsNotes, StateKept};
 
 use crate::constants::read_items;
 use pc_annotations::ModuleOutline;
@@ -83,27 +83,27 @@ impl<Ty: Drop> Signatures<Ty> {
 ///
 /// Language Reference 3.12, 7.2 "Assignment statements" and 8.7 "Function definitions"; library reference,
 /// `dataclasses`; typing specification, "Type annotations"; own rules of the profile.
-#[tactic(auto, using(pc_rules::proofs::Checkers::goes_further), unfolding(pc_rules::specs::Computed::Signatures::signatures_find))]
+#[tactic(auto, using(pc_rules::proofs::TypingStates::goes_further), unfolding(pc_rules::specs::Computed::Signatures::signatures_find))]
 pub fn read_signatures<S: TypeStore>(
-    checker: &mut TypingState<'_, S>,
+    state: &mut TypingState<'_, S>,
     outline: &ModuleOutline,
     classes: &ClassTable<S::Ty>,
     keeps: bool,
 ) -> Result<Signatures<S::Ty>, OutOfMemory>
     requires outline { IsModuleOutline outline.now }
     requires classes { classes_with S.tree classes.now ≡ classes_of (module_in outline.now) }
-    requires entries { HasEntries (S.has checker.old.store.now) classes.now }
-    ensures held { IfOk result (HasSigned (S.has checker.new.store.now)) }
+    requires entries { HasEntries (S.has state.old.store.now) classes.now }
+    ensures held { IfOk result (HasSigned (S.has state.new.store.now)) }
     ensures constants { IfOk result (λ s. map S.tree s.constants ≡ constants_of (module_in outline.now)) }
     ensures functions { IfOk result
         (λ s. map (signature_with S.tree) s.functions ≡ signatures_of (module_in outline.now)) }
     ensures methods { IfOk result (λ s. all_signatures_with S.tree s.methods ≡ method_signatures
         (module_in outline.now)) }
-    ensures found { OnOk result (AddsNotes checker.old checker.new
+    ensures found { OnOk result (AddsNotes state.old state.new
         (signatures_find (module_in outline.now) keeps)) }
-    ensures goes_on { CheckerKept S.TypeStore checker.old checker.new }
+    ensures goes_on { StateKept S.TypeStore state.old state.new }
 {
-    let functions = read_functions(checker, outline)?;
+    let functions = read_functions(state, outline)?;
     let globals = ModuleContext {
         outline,
         classes,
@@ -112,7 +112,7 @@ pub fn read_signatures<S: TypeStore>(
         known: 0,
         keeps,
     };
-    let read = read_items(checker, &globals)?;
+    let read = read_items(state, &globals)?;
     Ok(Signatures {
         constants: read.constants,
         functions,

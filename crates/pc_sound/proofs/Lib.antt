@@ -6,7 +6,7 @@ pub mod Heap
 pub mod Expressions
 pub mod Calls
 pub mod Statements
-pub mod Settled
+pub mod Regular
 pub mod Modules
 pub mod Border
 pub mod Examples

@@ -14,7 +14,7 @@ use Rattle.pc_machine.specs.Evaluation.{call_callee}
 use Rattle.pc_machine.specs.Runs.{free_parts}
 use Rattle.pc_sound.specs.Values.{HeapTyping, Extends}
 use Rattle.pc_sound.specs.Arguments.{Suits}
-use Rattle.pc_sound.specs.OutsideCalls.{IsReady, IsEntrance, EndsAsPromised}
+use Rattle.pc_sound.specs.OutsideCalls.{IsReadyForCalls, IsEntrance, EndsAsPromised}
 use Rattle.pc_sound.specs.Silent.{HasNoSilentError}
 use Rattle.pc_sound.specs.Sound.{HasEvaluatedListed}
 
@@ -23,7 +23,7 @@ use Rattle.pc_sound.specs.Sound.{HasEvaluatedListed}
 pub record GoesOnWith (m : Module) (labels : Labelling m) (further : HeapTyping → State → Type 0) (k : HeapTyping)
     (s : State) (gives : Tree) (out : Out Value) (after : State) : Type 0 where
   pub promised : EndsAsPromised m labels k s gives out after
-  pub next : (k' : HeapTyping) (s' : State) → Extends promised.typing k' → IsReady m labels k' s' → further k' s'
+  pub next : (k' : HeapTyping) (s' : State) → Extends promised.typing k' → IsReadyForCalls m labels k' s' → further k' s'
 
 -- a number of calls, one after another, each of anything that can be called then, with arguments that match: each has
 -- evaluated a listed place, and nothing is said of those after it, or it ends as promised
@@ -38,4 +38,4 @@ CallsGoOn m labels (suc left) k s = (callee : Callee) (params : List TypedParame
 -- any number of calls is sound in this sense, from each state in which a module without silent findings can be called
 abbrev pub CallSequencesAreSound : Type 0
 CallSequencesAreSound = (m : Module) → HasNoSilentError m → (labels : Labelling m) → IsLawful m labels
-    → (k : HeapTyping) (s : State) → IsReady m labels k s → (calls : ℕ) → CallsGoOn m labels calls k s
+    → (k : HeapTyping) (s : State) → IsReadyForCalls m labels k s → (calls : ℕ) → CallsGoOn m labels calls k s

@@ -16,7 +16,7 @@ use Rattle.pc_machine.specs.Runs.{free_parts}
 use Rattle.pc_sound.specs.Values.{HeapTyping, HasType}
 use Rattle.pc_sound.specs.Arguments.{Suits}
 use Rattle.pc_sound.specs.Border.{ValueDemand, fitting_typing}
-use Rattle.pc_sound.specs.OutsideCalls.{IsReady, IsEntrance, EndsAsPromised}
+use Rattle.pc_sound.specs.OutsideCalls.{IsReadyForCalls, IsEntrance, EndsAsPromised}
 use Rattle.pc_sound.specs.Silent.{HasNoSilentError}
 use Rattle.pc_sound.specs.Sound.{HasEvaluatedListed}
 
@@ -28,14 +28,14 @@ AreMet bases k (d ∷ ds) = HasType bases k d.type d.value × AreMet bases k ds
 -- the module can be called, the objects are of their classes, and the arguments match the parameters
 pub record IsFitting (m : Module) (labels : Labelling m) (k : HeapTyping) (s : State) (objects : List ValueDemand)
     (params : List TypedParameter) (values : List Value) (named : List NamedValue) : Type 0 where
-  pub ready : IsReady m labels k s
+  pub ready : IsReadyForCalls m labels k s
   pub met : AreMet (bases_of m) k objects
   pub suit : Suits (bases_of m) k params values named
 
 -- in a state in which the module can be called, whatever other code does to the heap, a call that fits meets those
 -- conditions under the heap typing found
 abbrev pub FittingIsRight : Type 0
-FittingIsRight = (m : Module) (labels : Labelling m) (k : HeapTyping) (s : State) → IsReady m labels k s → (heap : Heap)
+FittingIsRight = (m : Module) (labels : Labelling m) (k : HeapTyping) (s : State) → IsReadyForCalls m labels k s → (heap : Heap)
     (objects : List ValueDemand) (params : List TypedParameter) (values : List Value) (named : List NamedValue)
     (found : HeapTyping) → fitting_typing m (constant_types m m.items labels) (record s { heap = heap }) objects params values
     named ≡ Some found → IsFitting m labels found (record s { heap = heap }) objects params values named
@@ -43,7 +43,7 @@ FittingIsRight = (m : Module) (labels : Labelling m) (k : HeapTyping) (s : State
 -- if no finding of a module is silent, a call that fits has evaluated a listed place or ends as promised
 abbrev pub FittingCallsAreSound : Type 0
 FittingCallsAreSound = (m : Module) → HasNoSilentError m → (labels : Labelling m) → IsLawful m labels → (k : HeapTyping)
-    (s : State) → IsReady m labels k s → (heap : Heap) (objects : List ValueDemand) (params : List TypedParameter)
+    (s : State) → IsReadyForCalls m labels k s → (heap : Heap) (objects : List ValueDemand) (params : List TypedParameter)
     (values : List Value) (named : List NamedValue) (found : HeapTyping)
     → fitting_typing m (constant_types m m.items labels) (record s { heap = heap }) objects params values named ≡ Some found
     → (callee : Callee) (gives : Tree) → IsEntrance m found (record s { heap = heap }) callee params gives
@@ -74,4 +74,4 @@ FittingCallsGoOn m labels (suc left) s = (heap : Heap) (objects : List ValueDema
 -- called
 abbrev pub FittingSequencesAreSound : Type 0
 FittingSequencesAreSound = (m : Module) → HasNoSilentError m → (labels : Labelling m) → IsLawful m labels
-    → (k : HeapTyping) (s : State) → IsReady m labels k s → (calls : ℕ) → FittingCallsGoOn m labels calls s
+    → (k : HeapTyping) (s : State) → IsReadyForCalls m labels k s → (calls : ℕ) → FittingCallsGoOn m labels calls s

@@ -4,7 +4,7 @@ use Rattle.std.specs.Prelude.{◌≡◌, ℕ, List, [], ◌∷◌, Bool as Test,
 use Rattle.pc_tree.specs.Tree.{FuncDef, ClassDef, Module}
 use Rattle.pc_scope.specs.declared.resolution.Builtin.{Builtin}
 use Rattle.pc_scope.specs.declared.resolution.Owner.TheVariants as owners
-use Rattle.pc_scope.specs.declared.resolution.NameMeaning.TheVariants as res
+use Rattle.pc_scope.specs.declared.resolution.NameMeaning.TheVariants as meaning
 use Rattle.pc_scope.specs.Reserved.{builtin_of}
 use Rattle.pc_scope.specs.Bindings.{functions_in, classes_in}
 use Rattle.pc_scope.specs.Resolution.{function_of, resolve_in_module}
@@ -92,11 +92,11 @@ pub record FunctionIs (m : Module) (k : HeapTyping) (globals : Globals) (word : 
 -- and exactly the classes of the module are made
 pub record IsLoaded (m : Module) (constants : List Tree) (k : HeapTyping) (made : List Class)
     (globals : Globals) : Type 0 where
-  pub constant : (word : List ℕ) (i : ℕ) (t : Tree) → resolve_in_module m word ≡ res.Const i
+  pub constant : (word : List ℕ) (i : ℕ) (t : Tree) → resolve_in_module m word ≡ meaning.Const i
       → slice_get constants i ≡ Some t → ConstantIs m k globals word t
-  pub function : (word : List ℕ) (i : ℕ) (d : FuncDef) → resolve_in_module m word ≡ res.Func i
+  pub function : (word : List ℕ) (i : ℕ) (d : FuncDef) → resolve_in_module m word ≡ meaning.Func i
       → slice_get (functions_in m.items) i ≡ Some d → FunctionIs m k globals word d
-  pub class : (word : List ℕ) (c : ℕ) → resolve_in_module m word ≡ res.Class c → global_by_name word globals
+  pub class : (word : List ℕ) (c : ℕ) → resolve_in_module m word ≡ meaning.Class c → global_by_name word globals
       ≡ Some (a_class c)
   pub classes : (c : ℕ) (t : ClassDef) → slice_get (classes_in m.items) c ≡ Some t → ClassIs m k made c
   pub reserved : (word : List ℕ) (b : Builtin) → builtin_of word ≡ Some b → global_by_name word globals ≡ None

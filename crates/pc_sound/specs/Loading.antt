@@ -10,14 +10,14 @@ use Rattle.pc_machine.specs.Evaluation.{exec_items}
 use Rattle.pc_machine.specs.Runs.{free_parts}
 use Rattle.pc_sound.specs.Values.{HeapTyping}
 use Rattle.pc_sound.specs.Ends.{EndsWell}
-use Rattle.pc_sound.specs.OutsideCalls.{IsReady}
+use Rattle.pc_sound.specs.OutsideCalls.{IsReadyForCalls}
 use Rattle.pc_sound.specs.Silent.{HasNoSilentError}
 use Rattle.pc_sound.specs.Sound.{HasEvaluatedListed}
 
 -- the items end where the module can be called, in another exception, or cut off
 pub record EndsLoaded (m : Module) (labels : Labelling m) (out : Out (Unit {0})) (after : State) : Type 0 where
   pub typing : HeapTyping
-  pub ends : EndsWell (λ u. IsReady m labels typing after) out
+  pub ends : EndsWell (λ u. IsReadyForCalls m labels typing after) out
 
 -- if no finding of a module is silent, its items, run from where nothing is bound and in any number of nested steps,
 -- have evaluated a listed place or end where the module can be called

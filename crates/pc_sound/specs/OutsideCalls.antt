@@ -3,7 +3,7 @@
 use Rattle.std.specs.Prelude.{◌≡◌, ◌⊎◌, ℕ, List, [], Some, slice_get}
 use Rattle.pc_source.specs.declared.place.Place.{Place}
 use Rattle.pc_tree.specs.Tree.{FuncDef, Module}
-use Rattle.pc_scope.specs.declared.resolution.NameMeaning.TheVariants as res
+use Rattle.pc_scope.specs.declared.resolution.NameMeaning.TheVariants as meaning
 use Rattle.pc_scope.specs.Bindings.{functions_in}
 use Rattle.pc_scope.specs.Resolution.{resolve_in_module}
 use Rattle.pc_types.specs.Tree.{Tree, Class}
@@ -26,7 +26,7 @@ use Rattle.pc_sound.specs.Silent.{HasNoSilentError}
 use Rattle.pc_sound.specs.Sound.{HasEvaluatedListed}
 
 -- the module can be called: its heap is well typed, it is loaded, and none of its functions is running
-pub record IsReady (m : Module) (labels : Labelling m) (k : HeapTyping) (s : State) : Type 0 where
+pub record IsReadyForCalls (m : Module) (labels : Labelling m) (k : HeapTyping) (s : State) : Type 0 where
   pub well : IsWell (bases_of m) (classes_of m) k s.heap
   pub loaded : IsLoaded m (constant_types m m.items labels) k s.classes s.globals
   pub no_frame : s.frame ≡ []
@@ -36,17 +36,17 @@ pub record CanBeCalled (m : Module) (s : State) : Type 0 where
   pub labels : Labelling m
   pub lawful : IsLawful m labels
   pub typing : HeapTyping
-  pub ready : IsReady m labels typing s
+  pub ready : IsReadyForCalls m labels typing s
 
 -- a callee with its parameters and its result type: a function of the module by its name, a class by its name, or a
 -- method of an object, by the type that the caller knows the object as
 pub data IsEntrance (m : Module) (k : HeapTyping) (s : State) (callee : Callee) (params : List TypedParameter)
     (gives : Tree) : Type 0 where
-  of_function : (word : List ℕ) (i : ℕ) (d : FuncDef) (f : Function) → resolve_in_module m word ≡ res.Func i
+  of_function : (word : List ℕ) (i : ℕ) (d : FuncDef) (f : Function) → resolve_in_module m word ≡ meaning.Func i
       → slice_get (functions_in m.items) i ≡ Some d → global_by_name word s.globals ≡ Some (a_function f)
       → callee ≡ calls_function f → params ≡ parameters_of m d.params → gives ≡ return_type m d
       → IsEntrance m k s callee params gives
-  of_class : (word : List ℕ) (c : ℕ) → resolve_in_module m word ≡ res.Class c → callee ≡ calls_class c
+  of_class : (word : List ℕ) (c : ℕ) → resolve_in_module m word ≡ meaning.Class c → callee ≡ calls_class c
       → params ≡ (class_facts_at (classes_of m) c).fields → gives ≡ Class c → IsEntrance m k s callee params gives
   of_method : (object : Value) (c : ℕ) (word : List ℕ) (q : Method) → HasType (bases_of m) k (Class c) object
       → method_by_name (class_facts_at (classes_of m) c).methods word ≡ Some q
@@ -59,7 +59,7 @@ pub record EndsAsPromised (m : Module) (labels : Labelling m) (k : HeapTyping) (
     (out : Out Value) (after : State) : Type 0 where
   pub typing : HeapTyping
   pub grows : Extends k typing
-  pub ready : IsReady m labels typing after
+  pub ready : IsReadyForCalls m labels typing after
   pub same_globals : after.globals ≡ s.globals
   pub same_classes : after.classes ≡ s.classes
   pub ends : EndsWell (λ v. HasType (bases_of m) typing gives v) out
@@ -75,4 +75,4 @@ CallIsSound m labels k s = (callee : Callee) (params : List TypedParameter) (giv
 -- each call is sound in each state in which a module without silent findings can be called
 abbrev pub CallsAreSound : Type 0
 CallsAreSound = (m : Module) → HasNoSilentError m → (labels : Labelling m) → IsLawful m labels → (k : HeapTyping)
-    (s : State) → IsReady m labels k s → CallIsSound m labels k s
+    (s : State) → IsReadyForCalls m labels k s → CallIsSound m labels k s

@@ -6,7 +6,7 @@ ghost use Rattle.std.specs.Prelude.{IfOk};
 ghost use Rattle.std.specs.Option.{option_map};
 ghost use Rattle.pc_tree.specs.Tree.{expr_of, ann_of, name_of, option_expr_of};
 ghost use Rattle.pc_module_rules.specs.Computed.Statements.{bind_value, bind_annotated, annotated_binding};
-ghost use Rattle.pc_walk.specs.Walks.{Stands, HoldsWant, WalkKept, BindsName};
+ghost use Rattle.pc_walk.specs.Walks.{IsValidIn, HoldsWant, WalkKept, BindsName};
 
 use crate::typing::type_in;
 use pc_flow::Env;
@@ -25,7 +25,7 @@ pub(crate) fn bind_value<S: TypeStore>(
     annotation: Option<S::Ty>,
     e: &Expr,
 ) -> Result<Env<S::Ty>, OutOfMemory>
-    requires stands { Stands S.TypeStore walk.old env }
+    requires stands { IsValidIn S.TypeStore walk.old env }
     requires annotation { HoldsWant S.TypeStore walk.old annotation }
     ensures bound { IfOk result (λ b. BindsName S.TypeStore walk.old env walk.new b
         (λ f t k. bind_value f t k meaning (option_map S.tree annotation) (expr_of e.now))) }
@@ -55,7 +55,7 @@ fn bind_read<S: TypeStore>(
     annotation: &Ann,
     value: &Option<Box<Expr>>,
 ) -> Result<Env<S::Ty>, OutOfMemory>
-    requires { Stands S.TypeStore walk.old env }
+    requires { IsValidIn S.TypeStore walk.old env }
     ensures bound { IfOk result (λ b. BindsName S.TypeStore walk.old env walk.new b
         (λ f t k. annotated_binding f t k meaning (name_of name.now) (ann_of annotation.now)
         (option_expr_of value.now))) }
@@ -86,7 +86,7 @@ pub fn bind_annotated<S: TypeStore>(
     annotation: &Ann,
     value: &Option<Box<Expr>>,
 ) -> Result<Env<S::Ty>, OutOfMemory>
-    requires { Stands S.TypeStore walk.old env }
+    requires { IsValidIn S.TypeStore walk.old env }
     ensures bound { IfOk result (λ b. BindsName S.TypeStore walk.old env walk.new b
         (λ f t k. bind_annotated f t k (name_of name.now) (ann_of annotation.now) (option_expr_of value.now))) }
     ensures goes_on { WalkKept S.TypeStore walk.old walk.new }

@@ -11,7 +11,7 @@ ghost use Rattle.pc_rules.specs.Computed.Findings.{codes_at};
 ghost use Rattle.pc_rules.specs.Computed.Standing.{finds_in};
 ghost use Rattle.pc_module_rules.specs.Computed.Statements.{item_label_of, values_item, iterable_finds};
 ghost use Rattle.pc_statements.specs.Internal.Ranges.{over_range};
-ghost use Rattle.pc_walk.specs.Walks.{Stands, IsLabel, IsType, WalkKept, Found, body_context_in, standing_in};
+ghost use Rattle.pc_walk.specs.Walks.{IsValidIn, IsLabel, IsType, WalkKept, Found, body_context_in, standing_in};
 ghost use Rattle.pc_flow.specs.Naming.{meanings};
 
 use crate::typing::type_in;
@@ -44,7 +44,13 @@ fn range_call<'e>(names: &OwnerNames, e: &'e Expr) -> Option<RangeCall<'e>>
         × (expr_of e.now ≡ call c.place (expr_of c.callee.now) (exprs_of_list c.arguments.now)
         (keywords_of_list c.by_name.now))) }
 {
-    let Expr::Call(place, callee, arguments, by_name) = e else {
+    let Expr::Call {
+        place,
+        callee,
+        arguments,
+        keywords: by_name,
+    } = e
+    else {
         return None;
     };
     if !means_range(names, callee) {
@@ -64,7 +70,7 @@ fn type_values<S: TypeStore>(
     env: &Env<S::Ty>,
     iterable: &Expr,
 ) -> Result<Label<S::Ty>, OutOfMemory>
-    requires { Stands S.TypeStore walk.old env.now }
+    requires { IsValidIn S.TypeStore walk.old env.now }
     ensures labelled { IfOk result
         (λ l. IsLabel S.TypeStore walk.new l (values_item (body_context_in S.TypeStore walk.old)
         (standing_in S.TypeStore walk.old env.now) (expr_of iterable.now))) }
@@ -90,7 +96,7 @@ fn type_range_call<S: TypeStore>(
     env: &Env<S::Ty>,
     iterable: &RangeCall<'_>,
 ) -> Result<Label<S::Ty>, OutOfMemory>
-    requires stands { Stands S.TypeStore walk.old env.now }
+    requires stands { IsValidIn S.TypeStore walk.old env.now }
     requires range { over_range (meanings walk.old.context.names.now)
         (call iterable.now.place (expr_of iterable.now.callee.now) (exprs_of_list iterable.now.arguments.now)
         (keywords_of_list iterable.now.by_name.now)) ≡ true }
@@ -105,18 +111,18 @@ fn type_range_call<S: TypeStore>(
         (keywords_of_list iterable.now.by_name.now)))) }
     ensures goes_on { WalkKept S.TypeStore walk.old walk.new }
 {
-    let setting = ExprContext {
+    let context = ExprContext {
         globals: walk.context.globals,
         in_body: true,
         names: walk.context.names,
         declared: walk.declared,
     };
-    let mut checker = TypingState {
+    let mut state = TypingState {
         store: walk.store,
         alloc: walk.alloc,
         found: walk.found,
     };
-    let item = type_range(&mut checker, &setting, env, iterable)?;
+    let item = type_range(&mut state, &context, env, iterable)?;
     Ok(item)
 }
 
@@ -127,7 +133,7 @@ fn type_item<S: TypeStore>(
     env: &Env<S::Ty>,
     iterable: &Expr,
 ) -> Result<Label<S::Ty>, OutOfMemory>
-    requires { Stands S.TypeStore walk.old env.now }
+    requires { IsValidIn S.TypeStore walk.old env.now }
     ensures labelled { IfOk result
         (λ l. IsLabel S.TypeStore walk.new l (item_label_of (body_context_in S.TypeStore walk.old)
         (standing_in S.TypeStore walk.old env.now) (expr_of iterable.now))) }
@@ -148,7 +154,7 @@ pub fn item_type<S: TypeStore>(
     env: &Env<S::Ty>,
     iterable: &Expr,
 ) -> Result<S::Ty, OutOfMemory>
-    requires { Stands S.TypeStore walk.old env.now }
+    requires { IsValidIn S.TypeStore walk.old env.now }
     ensures typed { IfOk result
         (λ t. IsType S.TypeStore walk.new t (item_label_of (body_context_in S.TypeStore walk.old)
         (standing_in S.TypeStore walk.old env.now) (expr_of iterable.now)).type) }

@@ -7,7 +7,7 @@ ghost use Rattle.pc_tree.specs.Tree.{expr_of, option_expr_of};
 ghost use Rattle.pc_flow.specs.Stored.{env_of};
 ghost use Rattle.pc_rules.specs.Computed.Standing.{finds_in, narrowed_standing};
 ghost use Rattle.pc_module_rules.specs.Computed.Statements.{narrowed_at, return_finds, option_finds};
-ghost use Rattle.pc_walk.specs.Walks.{Stands, IsEnv, WalkKept, Found, body_context_in};
+ghost use Rattle.pc_walk.specs.Walks.{IsValidIn, IsEnv, WalkKept, Found, body_context_in};
 
 use crate::typing::{type_condition, type_in};
 use pc_flow::{BothWays, Env};
@@ -25,7 +25,7 @@ pub fn find_return<S: TypeStore>(
     first: Place,
     value: &Option<Box<Expr>>,
 ) -> Result<(), OutOfMemory>
-    requires { Stands S.TypeStore walk.old env.now }
+    requires { IsValidIn S.TypeStore walk.old env.now }
     ensures finds { OnOk result (Found S.TypeStore walk.old env.now walk.new
         (λ f k. return_finds f k first (option_expr_of value.now))) }
     ensures goes_on { WalkKept S.TypeStore walk.old walk.new }
@@ -56,7 +56,7 @@ fn find_option<S: TypeStore>(
     env: &Env<S::Ty>,
     e: &Option<Box<Expr>>,
 ) -> Result<(), OutOfMemory>
-    requires { Stands S.TypeStore walk.old env.now }
+    requires { IsValidIn S.TypeStore walk.old env.now }
     ensures finds { OnOk result (Found S.TypeStore walk.old env.now walk.new
         (λ f k. option_finds f k None (option_expr_of e.now))) }
     ensures goes_on { WalkKept S.TypeStore walk.old walk.new }
@@ -78,7 +78,7 @@ pub fn check_assert<S: TypeStore>(
     condition: &Expr,
     message: &Option<Box<Expr>>,
 ) -> Result<Env<S::Ty>, OutOfMemory>
-    requires { Stands S.TypeStore walk.old env }
+    requires { IsValidIn S.TypeStore walk.old env }
     ensures behind { IfOk result (λ e. IsEnv S.TypeStore walk.new e
         (narrowed_at (body_context_in S.TypeStore walk.old) (env_of S.tree walk.old.declared.now) true
         (expr_of condition.now) (env_of S.tree env))) }

@@ -9,7 +9,7 @@ ghost use Rattle.pc_rules.specs.Operations.{stored_types};
 ghost use Rattle.pc_rules.specs.Computed.ModuleParents.{class_parents};
 ghost use Rattle.pc_statements.specs.Storing.{HasStoreOffer, store_offer_with};
 ghost use Rattle.pc_module_rules.specs.Computed.Statements.{store_finds, stored_finds};
-ghost use Rattle.pc_walk.specs.Walks.{Stands, WalkKept, Found};
+ghost use Rattle.pc_walk.specs.Walks.{IsValidIn, WalkKept, Found};
 
 use crate::store_offers::{
     StoreOffer, StoreTarget, only_type, store_codes, store_index_types, store_offers, stored_types,
@@ -31,7 +31,7 @@ fn find_stored<S: TypeStore>(
     place: Place,
     value: &Expr,
 ) -> Result<(), OutOfMemory>
-    requires stands { Stands S.TypeStore walk.old env.now }
+    requires stands { IsValidIn S.TypeStore walk.old env.now }
     requires offers { All (HasStoreOffer (S.has walk.old.store.now)) offers.now }
     requires well_formed { AreWellFormed (class_parents walk.old.context.globals.now)
         (stored_types (map (store_offer_with S.tree) offers.now)) }
@@ -58,7 +58,7 @@ fn find_attribute_store<S: TypeStore>(
     field: &Name,
     value: &Expr,
 ) -> Result<(), OutOfMemory>
-    requires { Stands S.TypeStore walk.old env.now }
+    requires { IsValidIn S.TypeStore walk.old env.now }
     ensures finds { OnOk result (Found S.TypeStore walk.old env.now walk.new
         (λ f k. store_finds f k (to_attribute place (expr_of object.now) (name_of field.now)) (expr_of value.now))) }
     ensures goes_on { WalkKept S.TypeStore walk.old walk.new }
@@ -87,7 +87,7 @@ fn find_item_store<S: TypeStore>(
     index: &Expr,
     value: &Expr,
 ) -> Result<(), OutOfMemory>
-    requires { Stands S.TypeStore walk.old env.now }
+    requires { IsValidIn S.TypeStore walk.old env.now }
     ensures finds { OnOk result (Found S.TypeStore walk.old env.now walk.new
         (λ f k. store_finds f k (to_index place (expr_of object.now) (expr_of index.now)) (expr_of value.now))) }
     ensures goes_on { WalkKept S.TypeStore walk.old walk.new }
@@ -115,18 +115,22 @@ pub(crate) fn find_store<S: TypeStore>(
     target: &Target,
     value: &Expr,
 ) -> Result<(), OutOfMemory>
-    requires { Stands S.TypeStore walk.old env.now }
+    requires { IsValidIn S.TypeStore walk.old env.now }
     ensures finds { OnOk result (Found S.TypeStore walk.old env.now walk.new
         (λ f k. store_finds f k (target_of target.now) (expr_of value.now))) }
     ensures goes_on { WalkKept S.TypeStore walk.old walk.new }
 {
     match target {
         Target::Name(_) => Ok(()),
-        Target::Attribute(place, object, field) => {
-            find_attribute_store(walk, env, *place, object, field, value)
-        }
-        Target::Index(place, object, index) => {
-            find_item_store(walk, env, *place, object, index, value)
-        }
+        Target::Attribute {
+            place,
+            object,
+            name: field,
+        } => { find_attribute_store(walk, env, *place, object, field, value) }
+        Target::Index {
+            place,
+            object,
+            key: index,
+        } => { find_item_store(walk, env, *place, object, index, value) }
     }
 }

@@ -5,7 +5,7 @@
 ghost use Rattle.std.specs.Prelude.{IfOk};
 ghost use Rattle.pc_tree.specs.Tree.{expr_of, name_of, target_of, to_name};
 ghost use Rattle.pc_module_rules.specs.Computed.Statements.{assign_target};
-ghost use Rattle.pc_walk.specs.Walks.{Stands, WalkKept, BindsName};
+ghost use Rattle.pc_walk.specs.Walks.{IsValidIn, WalkKept, BindsName};
 
 use crate::binding::bind_value;
 use crate::stores::find_store;
@@ -23,7 +23,7 @@ fn assign_name<S: TypeStore>(
     name: &Name,
     value: &Expr,
 ) -> Result<Env<S::Ty>, OutOfMemory>
-    requires { Stands S.TypeStore walk.old env }
+    requires { IsValidIn S.TypeStore walk.old env }
     ensures bound { IfOk result (λ b. BindsName S.TypeStore walk.old env walk.new b
         (λ f t k. assign_target f t k (to_name (name_of name.now)) (expr_of value.now))) }
     ensures goes_on { WalkKept S.TypeStore walk.old walk.new }
@@ -43,14 +43,14 @@ pub fn assign_target<S: TypeStore>(
     target: &Target,
     value: &Expr,
 ) -> Result<Env<S::Ty>, OutOfMemory>
-    requires { Stands S.TypeStore walk.old env }
+    requires { IsValidIn S.TypeStore walk.old env }
     ensures bound { IfOk result (λ b. BindsName S.TypeStore walk.old env walk.new b
         (λ f t k. assign_target f t k (target_of target.now) (expr_of value.now))) }
     ensures goes_on { WalkKept S.TypeStore walk.old walk.new }
 {
     match target {
         Target::Name(name) => assign_name(walk, env, name, value),
-        Target::Attribute(_, _, _) | Target::Index(_, _, _) => {
+        Target::Attribute { .. } | Target::Index { .. } => {
             find_store(walk, &env, target, value)?;
             Ok(env)
         }

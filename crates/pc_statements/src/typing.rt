@@ -8,7 +8,8 @@ ghost use Rattle.pc_tree.specs.Tree.{expr_of};
 ghost use Rattle.pc_flow.specs.Stored.{env_of};
 ghost use Rattle.pc_rules.specs.Computed.Standing.{label_in, finds_in};
 ghost use Rattle.pc_module_rules.specs.Computed.Statements.{narrowed_at};
-ghost use Rattle.pc_walk.specs.Walks.{Stands, HoldsWant, IsLabel, IsEnv, WalkKept, Found, body_context_in, standing_in};
+ghost use Rattle.pc_walk.specs.Walks.{IsValidIn, HoldsWant, IsLabel, IsEnv, WalkKept, Found, standing_in};
+ghost use Rattle.pc_walk.specs.Walks.{body_context_in};
 
 use pc_expr::check_expr;
 use pc_flow::{BothWays, Env};
@@ -26,7 +27,7 @@ pub fn type_in<S: TypeStore>(
     want: &Option<S::Ty>,
     e: &Expr,
 ) -> Result<Label<S::Ty>, OutOfMemory>
-    requires stands { Stands S.TypeStore walk.old env.now }
+    requires stands { IsValidIn S.TypeStore walk.old env.now }
     requires want { HoldsWant S.TypeStore walk.old want.now }
     ensures labelled { IfOk result
         (λ l. IsLabel S.TypeStore walk.new l
@@ -35,18 +36,18 @@ pub fn type_in<S: TypeStore>(
         (λ f k. finds_in k (option_map S.tree want.now) (expr_of e.now))) }
     ensures goes_on { WalkKept S.TypeStore walk.old walk.new }
 {
-    let setting = ExprContext {
+    let context = ExprContext {
         globals: walk.context.globals,
         in_body: true,
         names: walk.context.names,
         declared: walk.declared,
     };
-    let mut checker = TypingState {
+    let mut state = TypingState {
         store: walk.store,
         alloc: walk.alloc,
         found: walk.found,
     };
-    let label = check_expr(&mut checker, &setting, env, want, e)?;
+    let label = check_expr(&mut state, &context, env, want, e)?;
     Ok(label)
 }
 
@@ -59,7 +60,7 @@ pub fn type_condition<S: TypeStore>(
     env: &Env<S::Ty>,
     condition: &Expr,
 ) -> Result<BothWays<S::Ty>, OutOfMemory>
-    requires { Stands S.TypeStore walk.old env.now }
+    requires { IsValidIn S.TypeStore walk.old env.now }
     ensures where_true { IfOk result (λ n. IsEnv S.TypeStore walk.new n.where_true
         (narrowed_at (body_context_in S.TypeStore walk.old) (env_of S.tree walk.old.declared.now) true
         (expr_of condition.now) (env_of S.tree env.now))) }
@@ -70,17 +71,17 @@ pub fn type_condition<S: TypeStore>(
         (λ f k. finds_in k None (expr_of condition.now))) }
     ensures goes_on { WalkKept S.TypeStore walk.old walk.new }
 {
-    let setting = ExprContext {
+    let context = ExprContext {
         globals: walk.context.globals,
         in_body: true,
         names: walk.context.names,
         declared: walk.declared,
     };
-    let mut checker = TypingState {
+    let mut state = TypingState {
         store: walk.store,
         alloc: walk.alloc,
         found: walk.found,
     };
-    let typed = pc_expr::type_condition(&mut checker, &setting, env, condition)?;
+    let typed = pc_expr::type_condition(&mut state, &context, env, condition)?;
     Ok(typed.ways)
 }

@@ -53,16 +53,28 @@ fn find_given(found: &mut Findings, alloc: Global, keys: Keys, e: &Expr) -> Resu
         | Expr::Not(_, operand)
         | Expr::IsNone(_, operand)
         | Expr::IsNotNone(_, operand)
-        | Expr::Attribute(_, operand, _) => find_given(found, alloc, keys, operand),
-        Expr::Binary(_, _, left, right)
-        | Expr::Compare(_, _, left, right)
-        | Expr::And(_, left, right)
-        | Expr::Or(_, left, right)
-        | Expr::Index(_, left, right) => {
+        | Expr::Attribute {
+            object: operand,
+            ..
+        } => find_given(found, alloc, keys, operand),
+        Expr::Binary { left, right, .. }
+        | Expr::Compare { left, right, .. }
+        | Expr::And { left, right, .. }
+        | Expr::Or { left, right, .. }
+        | Expr::Index {
+            object: left,
+            key: right,
+            ..
+        } => {
             find_given(found, alloc, keys, left)?;
             find_given(found, alloc, keys, right)
         }
-        Expr::Call(_, callee, arguments, by_name) => {
+        Expr::Call {
+            callee,
+            arguments,
+            keywords: by_name,
+            ..
+        } => {
             find_given(found, alloc, keys, callee)?;
             find_given_in_all(found, alloc, keys, arguments)?;
             find_given_again(found, alloc, keys, by_name)?;
@@ -149,8 +161,8 @@ fn find_given_in_target(
 {
     match target {
         Target::Name(_) => Ok(()),
-        Target::Attribute(_, object, _) => find_given(found, alloc, keys, object),
-        Target::Index(_, object, key) => {
+        Target::Attribute { object, .. } => find_given(found, alloc, keys, object),
+        Target::Index { object, key, .. } => {
             find_given(found, alloc, keys, object)?;
             find_given(found, alloc, keys, key)
         }
@@ -191,7 +203,7 @@ fn find_given_in_statement(
             find_given(found, alloc, keys, condition)?;
             find_given_in_optional(found, alloc, keys, message)
         }
-        StmtKind::Annotated(_, _, value) => find_given_in_optional(found, alloc, keys, value),
+        StmtKind::Annotated { value, .. } => find_given_in_optional(found, alloc, keys, value),
         StmtKind::Assign(target, value) => {
             find_given_in_target(found, alloc, keys, target)?;
             find_given(found, alloc, keys, value)
@@ -201,7 +213,7 @@ fn find_given_in_statement(
             find_given(found, alloc, keys, condition)?;
             find_given_in_body(found, alloc, keys, body)
         }
-        StmtKind::For(_, iterable, body) => {
+        StmtKind::For { iterable, body, .. } => {
             find_given(found, alloc, keys, iterable)?;
             find_given_in_body(found, alloc, keys, body)
         }

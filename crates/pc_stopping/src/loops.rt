@@ -28,8 +28,8 @@ fn find_loose_by(found: &mut Findings, first: Place, kind: &StmtKind) -> Result<
 {
     match kind {
         StmtKind::Pass | StmtKind::Return(_) | StmtKind::Assert(_, _) => Ok(()),
-        StmtKind::Annotated(_, _, _) | StmtKind::Assign(_, _) | StmtKind::Expr(_) => Ok(()),
-        StmtKind::While(_, _) | StmtKind::For(_, _, _) => Ok(()),
+        StmtKind::Annotated { .. } | StmtKind::Assign(_, _) | StmtKind::Expr(_) => Ok(()),
+        StmtKind::While(_, _) | StmtKind::For { .. } => Ok(()),
         StmtKind::Break => find(found, Code::E05, first),
         StmtKind::Continue => find(found, Code::E05, first),
         StmtKind::If(branches, otherwise) => {

@@ -6,17 +6,13 @@ use Rattle.pc_source.specs.declared.place.Place.{Place}
 use Rattle.pc_source.specs.Lines.{line_of, column_of}
 use Rattle.pc_tree.specs.declared.code.Finding.{Finding}
 use Rattle.pc_tree.specs.Tree.{Module}
-use Rattle.pc_types.specs.Tree.{Tree}
-use Rattle.pc_detail_texts.specs.Details.{Detail}
-use Rattle.pc_detail_texts.specs.Mapped.{map_detail}
 use Rattle.pc_detail_texts.specs.Places.{other_places}
 use Rattle.pc_detail_texts.specs.Shown.{detail_of_value}
 use Rattle.pc_report.specs.Report.{row_findings}
 use Rattle.pc_module_rules.specs.Computed.Modules.{module_notes}
 use Rattle.pc_details.specs.declared.explained.DetailedFinding.{DetailedFinding}
 use Rattle.pc_details.specs.Listed.{ListedDetail, details_told, listed_of}
-use Rattle.pc_detail_rules.specs.Explains.{Explains}
-use Rattle.pc_detail_rules.specs.ToldTypes.{told_type}
+use Rattle.pc_detail_rules.specs.Explains.{AreWords}
 use Rattle.pc_top.specs.declared.detailed.DetailedReport.{DetailedReport}
 use Rattle.pc_top.specs.declared.detailed.PlacedDetail.{PlacedDetail}
 use Rattle.pc_top.specs.Headline.{Headline}
@@ -24,9 +20,7 @@ use Rattle.pc_top.specs.Headline.{Headline}
 -- a finding of a list with the detail that explains it, under every lawful labelling of the module, with types as texts
 pub record ExplainsFinding (m : Module) (findings : List Finding) (d : DetailedFinding) : Type 0 where
   pub listed : Contains findings d.finding
-  pub detail : Detail Tree
-  pub explains : Explains m d.finding detail
-  pub shown : detail_of_value d.detail ≡ map_detail (told_type m) detail
+  pub told : AreWords m d.finding (detail_of_value d.detail)
 
 -- the details of findings of a module, in their order, of each that has one, with types as texts: by the notes of its one
 -- lawful labelling

@@ -10,9 +10,7 @@ use Rattle.pc_source.specs.Taken.{TakesAll, TakesBeginning}
 use Rattle.pc_tree.specs.declared.code.Code.{Code}
 use Rattle.pc_tree.specs.declared.code.Finding.{Finding}
 use Rattle.pc_tree.specs.Tree.{Module}
-use Rattle.pc_types.specs.Tree.{Tree}
 use Rattle.pc_detail_texts.specs.Details.{Detail}
-use Rattle.pc_detail_texts.specs.Mapped.{map_detail}
 use Rattle.pc_detail_texts.specs.Places.{other_places}
 use Rattle.pc_detail_texts.specs.Sentences.{Words, sentence_of}
 use Rattle.pc_report.specs.declared.format.Format.TheVariants.{One, Two}
@@ -20,8 +18,7 @@ use Rattle.pc_report.specs.declared.report.Row.{Row}
 use Rattle.pc_report.specs.Detailed.{detailed_json}
 use Rattle.pc_report.specs.Report.{row_text, errors_of, dynamic_count}
 use Rattle.pc_module_rules.specs.Computed.Modules.{module_notes}
-use Rattle.pc_detail_rules.specs.Explains.{Explains}
-use Rattle.pc_detail_rules.specs.ToldTypes.{told_type}
+use Rattle.pc_detail_rules.specs.Explains.{AreWords}
 use Rattle.pc_details.specs.Listed.{detail_told}
 use Rattle.pc_top.specs.DetailedBytes.{start_position}
 use Rattle.pc_top.specs.Headline.{Headline}
@@ -33,8 +30,7 @@ detail_in m f = option_map (λ d. d.words) (detail_told m (module_notes true m [
 
 -- a finding is told a detail exactly if one explains it, under every lawful labelling of the module, and has that text
 abbrev pub TellsDetails : Module → (Finding → Option (Detail Words)) → Type 0
-TellsDetails m told = (f : Finding) (words : Detail Words)
-    → (told f ≡ Some words) ↔ ((d : Detail Tree) × Explains m f d × (words ≡ map_detail (told_type m) d))
+TellsDetails m told = (f : Finding) (words : Detail Words) → (told f ≡ Some words) ↔ AreWords m f words
 
 -- a position: its line, a colon, and its column
 abbrev pub position_text : ℕ × ℕ → List ℕ

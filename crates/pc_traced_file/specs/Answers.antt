@@ -20,12 +20,13 @@ abbrev pub most_read : ℕ
 most_read = source_limit + 1
 
 module _ {R : Type 0} (remaining : R → Option (List ℕ)) where
-  -- the reader gave its bytes to its end, and their plain run, with that fuel, has these events and this end
-  pub record RunsInput (fuel : ℕ) (old new : Counted R) (events : List Place) (end : End) : Type 0 where
+  -- the reader gave its bytes to its end, and their plain run, with that fuel and these choices, has these events and
+  -- this end
+  pub record RunsInput (fuel : ℕ) (choices : List ℕ) (old new : Counted R) (events : List Place) (end : End) : Type 0 where
     pub bytes : List ℕ
     pub read : IsRead remaining most_read bytes old new
     pub whole : IsAtEnd (remaining new.device)
-    pub runs : RunsPlainly bytes fuel events end
+    pub runs : RunsPlainly bytes fuel choices events end
 
   -- the refusal is that of the bytes read: all of the reader's, or as many as are read at most
   pub record IsRefusedInput (old new : Counted R) (refusal : Refusal) : Type 0 where

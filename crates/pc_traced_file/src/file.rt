@@ -30,13 +30,14 @@ fn is_written<W: Write + Drop>(bytes: &[u8], output: &mut Counted<W>) -> bool
 fn shown<R: Read + Drop, W: Write + Drop>(
     alloc: Global,
     fuel: u64,
+    choices: &[u8],
     input: &mut Counted<R>,
     output: &mut Counted<W>,
 ) -> Result<(), RunFault>
-    ensures output { IsOutput W.contents (RunsInput R.remaining fuel input.old input.new) result output.old output.new }
+    ensures output { IsOutput W.contents (RunsInput R.remaining fuel choices.now input.old input.new) result output.old output.new }
     ensures refused { IfErr result (WhenRefused (IsRefusedInput R.remaining input.old input.new)) }
 {
-    match traced_input(alloc, fuel, input) {
+    match traced_input(alloc, fuel, choices, input) {
         Ok(text) => {
             if is_written(text.as_bytes(), output) {
                 Ok(())
@@ -48,9 +49,9 @@ fn shown<R: Read + Drop, W: Write + Drop>(
     }
 }
 
-/// Runs the module that the bytes of a reader spell, with that fuel and without choices. Writes the text of its trace
-/// to `output`, or the line of a refusal or of a failed allocation to `errors`. `status_of` gives the exit status of
-/// the program for the result.
+/// Runs the module that the bytes of a reader spell, with that fuel and these choices, each a byte from which one free
+/// answer is taken. Writes the text of its trace to `output`, or the line of a refusal or of a failed allocation to
+/// `errors`. `status_of` gives the exit status of the program for the result.
 ///
 /// Reading stops after 1,048,577 bytes, one more than a source text may have. Own rule of
 /// the profile.
@@ -65,15 +66,16 @@ fn shown<R: Read + Drop, W: Write + Drop>(
 pub fn run_file<R: Read + Drop, W: Write + Drop, E: Write + Drop>(
     alloc: Global,
     fuel: u64,
+    choices: &[u8],
     input: &mut Counted<R>,
     output: &mut Counted<W>,
     errors: &mut Counted<E>,
 ) -> Result<(), RunFault>
-    ensures output { IsOutput W.contents (RunsInput R.remaining fuel input.old input.new) result output.old output.new }
+    ensures output { IsOutput W.contents (RunsInput R.remaining fuel choices.now input.old input.new) result output.old output.new }
     ensures errors { IsFaultShown E.contents result errors.old errors.new }
     ensures refused { IfErr result (WhenRefused (IsRefusedInput R.remaining input.old input.new)) }
 {
-    match shown(alloc, fuel, input, output) {
+    match shown(alloc, fuel, choices, input, output) {
         Ok(()) => Ok(()),
         Err(fault) => Err(after_telling(alloc, fault, errors)),
     }

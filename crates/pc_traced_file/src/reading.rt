@@ -19,11 +19,12 @@ use std::io::Read;
 const MOST: usize = 1_048_577;
 
 /// Runs the module that the bytes spell, and returns the text of its trace.
-fn traced_text(alloc: Global, fuel: u64, bytes: &[u8]) -> Result<String, Fault>
-    ensures trace { IfOk result (λ text. IsTraceText (RunsPlainly bytes.now fuel) (string_bytes text)) }
+fn traced_text(alloc: Global, fuel: u64, choices: &[u8], bytes: &[u8]) -> Result<String, Fault>
+    ensures trace { IfOk result
+        (λ text. IsTraceText (RunsPlainly bytes.now fuel choices.now) (string_bytes text)) }
     ensures refused { IfErr result (OnRefusal (IsRefusalOf bytes.now)) }
 {
-    match traced(alloc, bytes, fuel) {
+    match traced(alloc, bytes, fuel, choices) {
         Ok(trace) => match trace_text(alloc, &trace) {
             Ok(text) => Ok(text),
             Err(_) => Err(Fault::OutOfMemory),
@@ -36,15 +37,16 @@ fn traced_text(alloc: Global, fuel: u64, bytes: &[u8]) -> Result<String, Fault>
 pub(crate) fn traced_input<R: Read + Drop>(
     alloc: Global,
     fuel: u64,
+    choices: &[u8],
     input: &mut Counted<R>,
 ) -> Result<String, RunFault>
     ensures trace { IfOk result
-        (λ text. IsTraceText (RunsInput R.remaining fuel input.old input.new) (string_bytes text)) }
+        (λ text. IsTraceText (RunsInput R.remaining fuel choices.now input.old input.new) (string_bytes text)) }
     ensures refused { IfErr result (WhenRefused (IsRefusedInput R.remaining input.old input.new)) }
     ensures before { IfErr result IsBeforeWriting }
 {
     match read_at_most(alloc, input, MOST) {
-        Ok(bytes) => match traced_text(alloc, fuel, bytes.as_slice()) {
+        Ok(bytes) => match traced_text(alloc, fuel, choices, bytes.as_slice()) {
             Ok(text) => Ok(text),
             Err(fault) => Err(RunFault::from(fault)),
         },

@@ -19,13 +19,13 @@ impl Expr {
             Expr::Tuple(place, _) | Expr::List(place, _) => *place,
             Expr::Dict(place, _) => *place,
             Expr::Negative(place, _) | Expr::Not(place, _) => *place,
-            Expr::Binary(place, _, _, _) => *place,
-            Expr::Compare(place, _, _, _) => *place,
+            Expr::Binary { place, .. } => *place,
+            Expr::Compare { place, .. } => *place,
             Expr::IsNone(place, _) | Expr::IsNotNone(place, _) => *place,
-            Expr::And(place, _, _) | Expr::Or(place, _, _) => *place,
-            Expr::Attribute(place, _, _) => *place,
-            Expr::Index(place, _, _) => *place,
-            Expr::Call(place, _, _, _) => *place,
+            Expr::And { place, .. } | Expr::Or { place, .. } => *place,
+            Expr::Attribute { place, .. } => *place,
+            Expr::Index { place, .. } => *place,
+            Expr::Call { place, .. } => *place,
         }
     }
 }
@@ -38,7 +38,7 @@ impl Ann {
         match self {
             Ann::Name(name) => name.place,
             Ann::NoneValue(place) => *place,
-            Ann::Apply(place, _, _) | Ann::Union(place, _) => *place,
+            Ann::Apply { place, .. } | Ann::Union(place, _) => *place,
             Ann::ApplyEmpty(place, _) => *place,
         }
     }

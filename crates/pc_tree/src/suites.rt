@@ -18,11 +18,11 @@ impl StmtKind {
         ensures { (p : PlaceOf) → map name_seen (option_to_list result) ≡ own_names (stmt_of_kind p self.now) }
     {
         match self {
-            StmtKind::Annotated(name, _, _) => Some(name),
+            StmtKind::Annotated { target: name, .. } => Some(name),
             StmtKind::Assign(Target::Name(name), _) => Some(name),
-            StmtKind::For(name, _, _) => Some(name),
-            StmtKind::Assign(Target::Attribute(_, _, _), _) => None,
-            StmtKind::Assign(Target::Index(_, _, _), _) => None,
+            StmtKind::For { target: name, .. } => Some(name),
+            StmtKind::Assign(Target::Attribute { .. }, _) => None,
+            StmtKind::Assign(Target::Index { .. }, _) => None,
             StmtKind::Pass | StmtKind::Break | StmtKind::Continue => None,
             StmtKind::Return(_) | StmtKind::Assert(_, _) | StmtKind::Expr(_) => None,
             StmtKind::While(_, _) | StmtKind::If(_, _) => None,
@@ -41,9 +41,9 @@ impl StmtKind {
         match self {
             StmtKind::Pass | StmtKind::Break | StmtKind::Continue => (&[], &[]),
             StmtKind::Return(_) | StmtKind::Assert(_, _) | StmtKind::Expr(_) => (&[], &[]),
-            StmtKind::Annotated(_, _, _) | StmtKind::Assign(_, _) => (&[], &[]),
+            StmtKind::Annotated { .. } | StmtKind::Assign(_, _) => (&[], &[]),
             StmtKind::While(_, body) => (&[], body),
-            StmtKind::For(_, _, body) => (&[], body),
+            StmtKind::For { body, .. } => (&[], body),
             StmtKind::If(branches, otherwise) => (branches, otherwise),
         }
     }

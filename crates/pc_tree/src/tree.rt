@@ -131,12 +131,20 @@ pub enum StmtKind {
     /// `assert`, its condition, and its message if it has one.
     Assert(Box<Expr>, Option<Box<Expr>>),
     /// A name with its annotation, and the value assigned to it, if any.
-    Annotated(Name, Box<Ann>, Option<Box<Expr>>),
+    Annotated {
+        target: Name,
+        annotation: Box<Ann>,
+        value: Option<Box<Expr>>,
+    },
     Assign(Target, Box<Expr>),
     /// An expression as a statement.
     Expr(Expr),
     While(Box<Expr>, Vec<Stmt>),
-    For(Name, Box<Expr>, Vec<Stmt>),
+    For {
+        target: Name,
+        iterable: Box<Expr>,
+        body: Vec<Stmt>,
+    },
     /// `if` and each `elif`, at least one branch, and the suite of `else`, which is empty if there is none.
     If(Vec<Branch>, Vec<Stmt>),
 }
@@ -153,8 +161,16 @@ pub struct Branch {
 #[derive(Debug, Drop)]
 pub enum Target {
     Name(Name),
-    Attribute(Place, Box<Expr>, Name),
-    Index(Place, Box<Expr>, Box<Expr>),
+    Attribute {
+        place: Place,
+        object: Box<Expr>,
+        name: Name,
+    },
+    Index {
+        place: Place,
+        object: Box<Expr>,
+        key: Box<Expr>,
+    },
 }
 
 /// `+`, `-`, `*`, `//` and `%`. Language Reference 6.7 "Binary arithmetic operations".
@@ -199,18 +215,49 @@ pub enum Expr {
     /// `-e`
     Negative(Place, Box<Expr>),
     Not(Place, Box<Expr>),
-    Binary(Place, BinaryOperator, Box<Expr>, Box<Expr>),
-    Compare(Place, ComparisonOperator, Box<Expr>, Box<Expr>),
+    Binary {
+        place: Place,
+        operator: BinaryOperator,
+        left: Box<Expr>,
+        right: Box<Expr>,
+    },
+    Compare {
+        place: Place,
+        operator: ComparisonOperator,
+        left: Box<Expr>,
+        right: Box<Expr>,
+    },
     IsNone(Place, Box<Expr>),
     IsNotNone(Place, Box<Expr>),
-    And(Place, Box<Expr>, Box<Expr>),
-    Or(Place, Box<Expr>, Box<Expr>),
+    And {
+        place: Place,
+        left: Box<Expr>,
+        right: Box<Expr>,
+    },
+    Or {
+        place: Place,
+        left: Box<Expr>,
+        right: Box<Expr>,
+    },
     /// `e.f`
-    Attribute(Place, Box<Expr>, Name),
+    Attribute {
+        place: Place,
+        object: Box<Expr>,
+        name: Name,
+    },
     /// `e[i]`
-    Index(Place, Box<Expr>, Box<Expr>),
+    Index {
+        place: Place,
+        object: Box<Expr>,
+        key: Box<Expr>,
+    },
     /// A callee, its positional arguments, and its arguments by name.
-    Call(Place, Box<Expr>, Vec<Expr>, Vec<KeywordArgument>),
+    Call {
+        place: Place,
+        callee: Box<Expr>,
+        arguments: Vec<Expr>,
+        keywords: Vec<KeywordArgument>,
+    },
 }
 
 /// A key and its value in a dict display.
@@ -235,7 +282,11 @@ pub enum Ann {
     Name(Name),
     NoneValue(Place),
     /// `N[A, ..]`
-    Apply(Place, Name, Vec<Ann>),
+    Apply {
+        place: Place,
+        head: Name,
+        arguments: Vec<Ann>,
+    },
     /// `N[()]`
     ApplyEmpty(Place, Name),
     /// Two or more parts with `|` between them.

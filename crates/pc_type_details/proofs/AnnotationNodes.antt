@@ -11,7 +11,7 @@ use Rattle.pc_tree.specs.Tree as tree
 use Rattle.pc_scope.specs.declared.resolution.Builtin.{Builtin}
 use Rattle.pc_scope.specs.declared.resolution.Builtin.TheVariants as builtin
 use Rattle.pc_scope.specs.declared.resolution.NameMeaning.{NameMeaning}
-use Rattle.pc_scope.specs.declared.resolution.NameMeaning.TheVariants as res
+use Rattle.pc_scope.specs.declared.resolution.NameMeaning.TheVariants as meaning
 use Rattle.pc_scope.specs.Resolution.{resolve_in_module}
 use Rattle.pc_types.specs.Below.{Bases}
 use Rattle.pc_types.specs.Join.{is_before}
@@ -131,7 +131,7 @@ built_nodes _ _ large = absurd (omega arith)
 
 applied_nodes : (r : NameMeaning) (ts : List Tree) → 1 < nodes (unwrap_or (applied_type r ts) Any)
     → nodes (unwrap_or (applied_type r ts) Any) ≡ nodes_of (trees ts) + 1
-applied_nodes (res.Builtin b) ts large = built_nodes b ts large
+applied_nodes (meaning.Builtin b) ts large = built_nodes b ts large
 applied_nodes _ ts large = absurd (omega arith)
 
 -- ---- annotations

@@ -59,8 +59,8 @@ found_for m used.Read word t = found_as_value m word t
 found_for m used.Called word t = found_as_callee m word t
 found_for m used.Assigned word t = found_as_target m word t
 
--- the detail of an attribute that is used in this way: the type of the object, its members that lack the name, the name, and
--- what else is known of it
+-- the detail of an attribute that is used in this way: the type of the object, its members that lack the name, the
+-- name, and the hint on it
 abbrev pub attribute_used : Module → Known → Use → Expr → Option (Detail Tree)
 attribute_used m known u (attribute p e field) =
     Some (attribute_detail m (found_for m u field.text) (known.types (place_of e)) field.text)

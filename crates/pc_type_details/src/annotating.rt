@@ -192,7 +192,7 @@ pub fn union_detail(facts: &Facts<'_, '_>, ann: &Ann) -> Result<Option<Detail>, 
     }
 }
 
-/// Returns that a name means no class, at the place of the name if there is one.
+/// Returns the fault of a name that means no class, with the place of its definition if there is one.
 fn no_class(
     facts: &Facts<'_, '_>,
     word: &str,
@@ -252,7 +252,7 @@ fn fault_of_name(
     }
 }
 
-/// Returns that the key of a dict is neither `int` nor `str`, or `None` if its type has over 256 nodes.
+/// Returns the fault of a dict's key that is neither `int` nor `str`, or `None` if its type has over 256 nodes.
 fn key_fault(facts: &Facts<'_, '_>, key: &Ann) -> Result<Option<AnnotationFault>, OutOfMemory>
     requires { AreFacts facts.now }
     ensures { IfOk result (λ o. option_map annotation_of_value o ≡ option_map (map_annotation (text_held facts.now))
@@ -327,7 +327,11 @@ fn fault_of_annotation(
             let meaning = facts.outline.scopes.resolve(Owner::Module, word);
             Ok(Some(fault_of_name(facts, word, meaning)?))
         }
-        Ann::Apply(_, head, types) => fault_of_types(facts, head, types),
+        Ann::Apply {
+            head,
+            arguments: types,
+            ..
+        } => fault_of_types(facts, head, types),
         Ann::ApplyEmpty(_, head) => fault_of_types(facts, head, &[]),
         Ann::NoneValue(_) | Ann::Union(_, _) => Ok(None),
     }

@@ -161,7 +161,7 @@ pub fn used_attribute_detail(
     ensures { IfOk result (ShowsDetail facts.now
         (attribute_used (module_held facts.now) (known_held facts.now) used (expr_of expr.now))) }
 {
-    let Expr::Attribute(_, object, name) = expr else {
+    let Expr::Attribute { object, name, .. } = expr else {
         return Ok(None);
     };
     let detail = missing(facts, used, object, name.text.as_str())?;
@@ -177,7 +177,7 @@ pub fn attribute_target(
     ensures { IfOk result (ShowsDetail facts.now
         (attribute_target (module_held facts.now) (known_held facts.now) (target_of target.now))) }
 {
-    let Target::Attribute(_, object, name) = target else {
+    let Target::Attribute { object, name, .. } = target else {
         return Ok(None);
     };
     let detail = missing(facts, Use::Assigned, object, name.text.as_str())?;
@@ -211,7 +211,7 @@ pub fn method_target(facts: &Facts<'_, '_>, target: &Target) -> Result<Option<De
     ensures { IfOk result (ShowsDetail facts.now
         (method_target (module_held facts.now) (known_held facts.now) (target_of target.now))) }
 {
-    let Target::Attribute(_, object, name) = target else {
+    let Target::Attribute { object, name, .. } = target else {
         return Ok(None);
     };
     match method_in(facts, facts.type_of(object), name.text.as_str())? {
@@ -240,7 +240,7 @@ fn no_value(facts: &Facts<'_, '_>, owned: OwnedExpr<'_>) -> Result<Option<NoValu
                 NameMeaning::Local(_) | NameMeaning::Const(_) | NameMeaning::None => Ok(None),
             }
         }
-        Expr::Attribute(_, object, name) => {
+        Expr::Attribute { object, name, .. } => {
             match method_in(facts, facts.type_of(object), name.text.as_str())? {
                 Some(method) => Ok(Some(NoValue::Method(facts.method_words(method)?))),
                 None => Ok(None),

@@ -55,7 +55,13 @@ pub fn call_detail<'m>(
     ensures { IfOk result (ShowsDetail facts.now (call_detail (module_held facts.now) (known_held facts.now)
         (resolve (module_held facts.now) owned.entry.owner) (expr_of owned.entry.expr.now))) }
 {
-    let Expr::Call(_, callee, arguments, keywords) = owned.expr else {
+    let Expr::Call {
+        callee,
+        arguments,
+        keywords,
+        ..
+    } = owned.expr
+    else {
         return Ok(None);
     };
     let given = given(facts.alloc, facts.outline.tree.keys, arguments, keywords)?;
@@ -128,7 +134,12 @@ pub fn builtin_detail<'m>(
     ensures { IfOk result (ShowsDetail facts.now (builtin_detail (module_held facts.now) (known_held facts.now)
         (resolve (module_held facts.now) owned.entry.owner) (expr_of owned.entry.expr.now))) }
 {
-    let Expr::Call(_, callee, arguments, _) = owned.expr else {
+    let Expr::Call {
+        callee,
+        arguments,
+        ..
+    } = owned.expr
+    else {
         return Ok(None);
     };
     builtin_of(facts, owned.owner, callee, arguments)
@@ -164,7 +175,12 @@ pub fn any_call_detail<'m>(
     ensures { IfOk result (ShowsDetail facts.now (any_call_detail (module_held facts.now) (known_held facts.now)
         (resolve (module_held facts.now) owned.entry.owner) (expr_of owned.entry.expr.now))) }
 {
-    let Expr::Call(_, callee, arguments, _) = owned.expr else {
+    let Expr::Call {
+        callee,
+        arguments,
+        ..
+    } = owned.expr
+    else {
         return Ok(None);
     };
     any_call_of(facts, owned.owner, callee, arguments)
@@ -176,7 +192,13 @@ pub fn loop_detail<'m>(facts: &Facts<'m, '_>, expr: &'m Expr) -> Result<Option<D
     requires { AreFacts facts.now }
     ensures { IfOk result (ShowsDetail facts.now (loop_detail (module_held facts.now) (known_held facts.now) (expr_of expr.now))) }
 {
-    let Expr::Call(_, callee, arguments, keywords) = expr else {
+    let Expr::Call {
+        callee,
+        arguments,
+        keywords,
+        ..
+    } = expr
+    else {
         return Ok(Some(iterate_detail(facts, expr)?));
     };
     if !is_range(callee) {

@@ -23,7 +23,7 @@ use pc_tree::{BinaryOperator, ComparisonOperator, Expr, Target};
 use pc_types::BoxType;
 use std::alloc::Global;
 
-/// What is done to an object.
+/// An operation on an object that its type may not support.
 #[derive(Clone, Copy)]
 pub(crate) enum ItemOperation {
     Contain,
@@ -155,12 +155,18 @@ pub fn operator_detail(facts: &Facts<'_, '_>, expr: &Expr) -> Result<Option<Deta
         (operator_detail (module_held facts.now) (known_held facts.now) (expr_of expr.now))) }
 {
     match expr {
-        Expr::Binary(_, operator, left, right) => {
-            Ok(Some(Detail::Types(binary(facts, *operator, left, right)?)))
-        }
-        Expr::Compare(_, operator, left, right) => {
-            Ok(Some(Detail::Types(comparison(facts, *operator, left, right)?)))
-        }
+        Expr::Binary {
+            operator,
+            left,
+            right,
+            ..
+        } => { Ok(Some(Detail::Types(binary(facts, *operator, left, right)?))) }
+        Expr::Compare {
+            operator,
+            left,
+            right,
+            ..
+        } => { Ok(Some(Detail::Types(comparison(facts, *operator, left, right)?))) }
         Expr::Negative(_, operand) => {
             let operand = facts.type_words(facts.type_of(operand))?;
             let used = OperatorUse::Minus(operand);
@@ -178,7 +184,12 @@ pub fn index_detail(facts: &Facts<'_, '_>, expr: &Expr) -> Result<Option<Detail>
     requires { AreFacts facts.now }
     ensures { IfOk result (ShowsDetail facts.now (index_detail (module_held facts.now) (known_held facts.now) (expr_of expr.now))) }
 {
-    let Expr::Index(_, object, index) = expr else {
+    let Expr::Index {
+        object,
+        key: index,
+        ..
+    } = expr
+    else {
         return Ok(None);
     };
     let of = without(facts, ItemOperation::Index, facts.type_of(object))?;
@@ -191,7 +202,7 @@ pub fn store_detail(facts: &Facts<'_, '_>, target: &Target) -> Result<Option<Det
     requires { AreFacts facts.now }
     ensures { IfOk result (ShowsDetail facts.now (store_detail (module_held facts.now) (known_held facts.now) (target_of target.now))) }
 {
-    let Target::Index(_, object, _) = target else {
+    let Target::Index { object, .. } = target else {
         return Ok(None);
     };
     let of = without(facts, ItemOperation::Store, facts.type_of(object))?;

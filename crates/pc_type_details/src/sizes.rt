@@ -46,7 +46,10 @@ fn large_nodes(facts: &Facts<'_, '_>, ann: &Ann) -> Result<usize, OutOfMemory>
 {
     match ann {
         Ann::Name(_) | Ann::NoneValue(_) | Ann::ApplyEmpty(_, _) => Ok(1),
-        Ann::Apply(_, _, parts) => Ok(nodes_of_each(facts, parts)?.saturating_add(1)),
+        Ann::Apply {
+            arguments: parts,
+            ..
+        } => Ok(nodes_of_each(facts, parts)?.saturating_add(1)),
         Ann::Union(_, parts) => {
             let bars = parts.len().saturating_sub(1);
             Ok(nodes_of_each(facts, parts)?.saturating_add(bars))

@@ -120,7 +120,7 @@ pub fn list_test_detail(facts: &Facts<'_, '_>, expr: &Expr) -> Result<Option<Det
     ensures { IfOk result (ShowsDetail facts.now
         (list_test_detail (known_held facts.now) (expr_of expr.now))) }
 {
-    let Expr::Call(_, _, arguments, _) = expr else {
+    let Expr::Call { arguments, .. } = expr else {
         return Ok(None);
     };
     first_tested(facts, arguments)

@@ -1,6 +1,6 @@
 -- Flow and covering of two types other than unions, by their heads.
 use Rattle.std.proofs.Common.{Box, Vec, Global, ap, ◌≡◌, ◌↔◌, ℕ, Some, Bool as Test, cond, IsTrue, true, false, refl}
-use Rattle.std.proofs.Common.{sym, subst, ◌⊎◌, inl, inr}
+use Rattle.std.proofs.Common.{sym, subst, ◌⊎◌, inl, inr, ⊎_elim}
 use Rattle.pc_types.specs.Tree.{Tree, Trees, Any, Object, Never, Int, Bool, Str, NoneType, Class, ListOf, DictOf}
 use Rattle.pc_types.specs.Tree.{TupleOf, Union}
 use Rattle.pc_types.specs.Below.{Bases, base_of, Below}
@@ -207,6 +207,96 @@ tuple_only bases g ss t n h = go (out-BoxType t) (roll-out-BoxType t) n h
         (sym e) h)
     go _ e n h = subst (λ x. HeadFits bases (TupleOf ss) (as_tested g (tree_of x))) (sym e) h
 
+-- a type whose head fits one of these has that head, if it is not in a list, a dict or a tuple
+pub int_only : (bases : Bases) (g : Test) (t : BoxType) → (t ≡ ty.Int → ⊥) → HeadFits bases Int (as_tested g (tree_of t)) → ⊥
+int_only bases g ty.Int n h = n refl
+int_only bases true ty.Any n h = h
+int_only bases false ty.Any n h = h
+int_only bases g _ n h = h
+
+pub bool_only : (bases : Bases) (g : Test) (t : BoxType) → (t ≡ ty.Bool → ⊥) → (t ≡ ty.Int → ⊥)
+    → HeadFits bases Bool (as_tested g (tree_of t)) → ⊥
+bool_only bases g ty.Bool n m h = n refl
+bool_only bases g ty.Int n m h = m refl
+bool_only bases true ty.Any n m h = h
+bool_only bases false ty.Any n m h = h
+bool_only bases g _ n m h = h
+
+pub bool_fits : (bases : Bases) (g : Test) (t : BoxType) → (t ≡ ty.Bool) ⊎ (t ≡ ty.Int)
+    → HeadFits bases Bool (as_tested g (tree_of t))
+bool_fits bases g t h =
+    ⊎_elim (λ e. subst (λ x. HeadFits bases Bool (as_tested g (tree_of x))) (sym e) tt)
+    (λ e. subst (λ x. HeadFits bases Bool (as_tested g (tree_of x))) (sym e) tt) h
+
+pub str_only : (bases : Bases) (g : Test) (t : BoxType) → (t ≡ ty.Str → ⊥) → HeadFits bases Str (as_tested g (tree_of t)) → ⊥
+str_only bases g ty.Str n h = n refl
+str_only bases true ty.Any n h = h
+str_only bases false ty.Any n h = h
+str_only bases g _ n h = h
+
+pub none_only : (bases : Bases) (g : Test) (t : BoxType) → (t ≡ ty.NoneType → ⊥)
+    → HeadFits bases NoneType (as_tested g (tree_of t)) → ⊥
+none_only bases g ty.NoneType n h = n refl
+none_only bases true ty.Any n h = h
+none_only bases false ty.Any n h = h
+none_only bases g _ n h = h
+
+pub class_only : (bases : Bases) (g : Test) (c : ℕ) (t : BoxType) → ((d : ℕ) → t ≡ ty.Class d → ⊥)
+    → HeadFits bases (Class c) (as_tested g (tree_of t)) → ⊥
+class_only bases g c (ty.Class d) n h = n d refl
+class_only bases true c ty.Any n h = h
+class_only bases false c ty.Any n h = h
+class_only bases g c _ n h = h
+
+list_not_any : (bases : Bases) (g : Test) (s : Tree) → HeadFits bases (ListOf s) (as_tested g tree.Any) → ⊥
+list_not_any bases true s h = h
+list_not_any bases false s h = h
+
+pub list_only : (bases : Bases) (g : Test) (s : Tree) (t : BoxType) → ((x : Box BoxType Global) → t ≡ ty.List x → ⊥)
+    → HeadFits bases (ListOf s) (as_tested g (tree_of t)) → ⊥
+unfolding roll-BoxType denote.Hole.Carrier.roll
+list_only bases g s t n h = go (out-BoxType t) (roll-out-BoxType t) n h
+  where
+    go : (o : BoxType-F BoxType) → roll-BoxType o ≡ t → ((x : Box BoxType Global) → t ≡ ty.List x → ⊥)
+        → HeadFits bases (ListOf s) (as_tested g (tree_of t)) → ⊥
+    go (open-ty.List b) e n h = n b (sym e)
+    go open-ty.Any e n h = list_not_any bases g s (subst (λ x. HeadFits bases (ListOf s) (as_tested g (tree_of x)))
+        (sym e) h)
+    go _ e n h = subst (λ x. HeadFits bases (ListOf s) (as_tested g (tree_of x))) (sym e) h
+
+dict_not_any : (bases : Bases) (g : Test) (j v : Tree) → HeadFits bases (DictOf j v) (as_tested g tree.Any) → ⊥
+dict_not_any bases true j v h = h
+dict_not_any bases false j v h = h
+
+pub dict_only : (bases : Bases) (g : Test) (j v : Tree) (t : BoxType)
+    → ((x y : Box BoxType Global) → t ≡ ty.Dict x y → ⊥) → HeadFits bases (DictOf j v) (as_tested g (tree_of t)) → ⊥
+unfolding roll-BoxType denote.Hole.Carrier.roll
+dict_only bases g j v t n h = go (out-BoxType t) (roll-out-BoxType t) n h
+  where
+    go : (o : BoxType-F BoxType) → roll-BoxType o ≡ t → ((x y : Box BoxType Global) → t ≡ ty.Dict x y → ⊥)
+        → HeadFits bases (DictOf j v) (as_tested g (tree_of t)) → ⊥
+    go (open-ty.Dict a b) e n h = n a b (sym e)
+    go open-ty.Any e n h = dict_not_any bases g j v (subst (λ x. HeadFits bases (DictOf j v) (as_tested g (tree_of x)))
+        (sym e) h)
+    go _ e n h = subst (λ x. HeadFits bases (DictOf j v) (as_tested g (tree_of x))) (sym e) h
+
+list_heads : (bases : Bases) (both : Test) (s t : Tree) → FlowFits bases both (ListOf s) t → HeadFits bases (ListOf s) t
+list_heads bases both s (ListOf t) h = tt
+list_heads bases both s _ h = h
+
+pub list_flows : (bases : Bases) (both g : Test) (s : Tree) (t : BoxType)
+    → ((x : Box BoxType Global) → t ≡ ty.List x → ⊥) → FlowFits bases both (ListOf s) (as_tested g (tree_of t)) → ⊥
+list_flows bases both g s t n h = list_only bases g s t n (list_heads bases both s (as_tested g (tree_of t)) h)
+
+dict_heads : (bases : Bases) (both : Test) (j v t : Tree) → FlowFits bases both (DictOf j v) t
+    → HeadFits bases (DictOf j v) t
+dict_heads bases both j v (DictOf k w) h = tt
+dict_heads bases both j v _ h = h
+
+pub dict_flows : (bases : Bases) (both g : Test) (j v : Tree) (t : BoxType)
+    → ((x y : Box BoxType Global) → t ≡ ty.Dict x y → ⊥) → FlowFits bases both (DictOf j v) (as_tested g (tree_of t)) → ⊥
+dict_flows bases both g j v t n h = dict_only bases g j v t n (dict_heads bases both j v (as_tested g (tree_of t)) h)
+
 tuple_heads : (bases : Bases) (both : Test) (ss : Trees) (t : Tree) → FlowFits bases both (TupleOf ss) t
     → HeadFits bases (TupleOf ss) t
 tuple_heads bases both ss (TupleOf ts) h = each_count h
@@ -215,6 +305,72 @@ tuple_heads bases both ss _ h = h
 pub tuple_flows : (bases : Bases) (both g : Test) (ss : Trees) (t : BoxType)
     → ((x : Vec BoxType Global) → t ≡ ty.Tuple x → ⊥) → FlowFits bases both (TupleOf ss) (as_tested g (tree_of t)) → ⊥
 tuple_flows bases both g ss t n h = tuple_only bases g ss t n (tuple_heads bases both ss (as_tested g (tree_of t)) h)
+
+-- a type without parts
+abbrev IsWhole : Tree → Type 0
+IsWhole (ListOf t) = ⊥
+IsWhole (DictOf k v) = ⊥
+IsWhole (TupleOf ts) = ⊥
+IsWhole _ = Unit {0}
+
+module _ (bases : Bases) (both : Test) where
+  int_same : (t : Tree) → HeadFits bases Int t ↔ FlowFits bases both Int t
+  int_same Int = (λ h. h, λ h. h)
+  int_same _ = (λ h. h, λ h. h)
+
+  bool_same : (t : Tree) → HeadFits bases Bool t ↔ FlowFits bases both Bool t
+  bool_same Bool = (λ h. h, λ h. h)
+  bool_same Int = (λ h. h, λ h. h)
+  bool_same _ = (λ h. h, λ h. h)
+
+  str_same : (t : Tree) → HeadFits bases Str t ↔ FlowFits bases both Str t
+  str_same Str = (λ h. h, λ h. h)
+  str_same _ = (λ h. h, λ h. h)
+
+  none_same : (t : Tree) → HeadFits bases NoneType t ↔ FlowFits bases both NoneType t
+  none_same NoneType = (λ h. h, λ h. h)
+  none_same _ = (λ h. h, λ h. h)
+
+  class_same : (c : ℕ) (t : Tree) → HeadFits bases (Class c) t ↔ FlowFits bases both (Class c) t
+  class_same c (Class d) = (λ h. h, λ h. h)
+  class_same c _ = (λ h. h, λ h. h)
+
+  whole_same : (s t : Tree) → IsWhole s → HeadFits bases s t ↔ FlowFits bases both s t
+  whole_same (ListOf s) t p = absurd p
+  whole_same (DictOf j v) t p = absurd p
+  whole_same (TupleOf ss) t p = absurd p
+  whole_same Int t p = int_same t
+  whole_same Bool t p = bool_same t
+  whole_same Str t p = str_same t
+  whole_same NoneType t p = none_same t
+  whole_same (Class c) t p = class_same c t
+  whole_same _ t p = (λ h. h, λ h. h)
+
+any_is_whole : (g : Test) → IsWhole (as_tested g tree.Any)
+any_is_whole true = tt
+any_is_whole false = tt
+
+is_whole : (g : Test) (s : BoxType) → ((x : Box BoxType Global) → s ≡ ty.List x → ⊥)
+    → ((x y : Box BoxType Global) → s ≡ ty.Dict x y → ⊥) → ((x : Vec BoxType Global) → s ≡ ty.Tuple x → ⊥)
+    → IsWhole (as_tested g (tree_of s))
+unfolding roll-BoxType denote.Hole.Carrier.roll
+is_whole g s l d v = go (out-BoxType s) (roll-out-BoxType s) l d v
+  where
+    go : (o : BoxType-F BoxType) → roll-BoxType o ≡ s → ((x : Box BoxType Global) → s ≡ ty.List x → ⊥)
+        → ((x y : Box BoxType Global) → s ≡ ty.Dict x y → ⊥) → ((x : Vec BoxType Global) → s ≡ ty.Tuple x → ⊥)
+        → IsWhole (as_tested g (tree_of s))
+    go (open-ty.List a) e l d v = absurd (l a (sym e))
+    go (open-ty.Dict a b) e l d v = absurd (d a b (sym e))
+    go (open-ty.Tuple a) e l d v = absurd (v a (sym e))
+    go open-ty.Any e l d v = subst (λ x. IsWhole (as_tested g (tree_of x))) e (any_is_whole g)
+    go _ e l d v = subst (λ x. IsWhole (as_tested g (tree_of x))) e tt
+
+-- of a type without parts, the head alone decides
+pub whole_flows : (bases : Bases) (both g : Test) (s t : BoxType) → ((x : Box BoxType Global) → s ≡ ty.List x → ⊥)
+    → ((x y : Box BoxType Global) → s ≡ ty.Dict x y → ⊥) → ((x : Vec BoxType Global) → s ≡ ty.Tuple x → ⊥)
+    → HeadFits bases (as_tested g (tree_of s)) (as_tested g (tree_of t))
+    ↔ FlowFits bases both (as_tested g (tree_of s)) (as_tested g (tree_of t))
+whole_flows bases both g s t l d v = whole_same bases both _ _ (is_whole g s l d v)
 
 pub tuple_differs : (ss : Trees) (t : BoxType) → ((x : Vec BoxType Global) → t ≡ ty.Tuple x → ⊥)
     → false ≡ same_tree (TupleOf ss) (tree_of t)

@@ -1,16 +1,17 @@
 -- The parts of two tuples joined one by one, and the join of equal tuples.
 use Rattle.std.proofs.Common.{◌≡◌, ◌+◌, ◌<◌, ◌≤◌, ◌++◌, ℕ, zero, suc, Bool as Test, true, false, length, get_or, drop}
-use Rattle.std.proofs.Common.{List, [], ◌∷◌, Option, Some, None, Result, IfOk, Vec, Global, refl, sym, ap, ◌∙◌, subst}
+use Rattle.std.proofs.Common.{List, [], ◌∷◌, Option, Some, None, Result, Ok, Err, IfOk, MatchResult, Vec, Global}
+use Rattle.std.proofs.Common.{refl, sym, ap, ◌∙◌, subst}
 use Rattle.std.proofs.Common.{arith, drop-cons, add-one}
 use Rattle.std.proofs.lemmas.Bool.Decides.{nat_tests}
 use Rattle.std.specs.Prelude.{if◌then◌else◌}
 use Rattle.std.specs.Option.{option_map}
-use Rattle.pc_types.specs.Tree.{Tree, Trees, Never, TupleOf, end, more}
+use Rattle.pc_types.specs.Tree.{Tree, Trees, Any, Object, Never, TupleOf, end, more}
 use Rattle.pc_types.specs.Below.{Bases}
-use Rattle.pc_types.specs.Shape.{count, union}
+use Rattle.pc_types.specs.Shape.{count, union, ahead}
 use Rattle.pc_types.specs.Normal.{IsNormal, AreNormal, IsOfMembers}
 use Rattle.pc_types.specs.Join.{same_tree, same_trees, is_before, both_parts, parts_of, put_all, unabsorbed_members}
-use Rattle.pc_types.specs.Join.{by_rule, one_of, join_each, join_of}
+use Rattle.pc_types.specs.Join.{by_rule, one_of, join_each, join_of, is_absorbed, ahead_of, kept_with, one_with}
 use Rattle.pc_types.specs.Boxed.{tree_of, trees_in}
 use Rattle.pc_types.specs.declared.boxed.BoxType.{BoxType}
 use Rattle.pc_types.specs.declared.boxed.BoxType.TheVariants as ty
@@ -21,6 +22,15 @@ use Rattle.pc_types.proofs.Together.{put_same}
 pub ok_as : {X Y E : Type 0} (f : X → Y) (r : Result X E) (a b : Y) → a ≡ b → IfOk r (λ o. f o ≡ a)
     → IfOk r (λ o. f o ≡ b)
 ok_as f r a b e h = subst (λ x. IfOk r (λ o. f o ≡ x)) e h
+
+-- the value of a call that was given the result of another call, which has a value if the call has one
+pub after_ok : {E : Type 0} (k : Option Tree → Option Tree) (r s : Result (Option BoxType) E) (a b : Option Tree)
+    → k a ≡ b → IfOk r (λ o. option_map tree_of o ≡ a)
+    → IfOk s (λ o. MatchResult r (λ p. option_map tree_of o ≡ k (option_map tree_of p)) (λ _. ⊥))
+    → IfOk s (λ o. option_map tree_of o ≡ b)
+after_ok k (Ok p) (Ok o) a b e h g = g ∙ ap k h ∙ e
+after_ok k (Err d) (Ok o) a b e h g = absurd g
+after_ok k r (Err d) a b e h g = tt
 
 -- parts that are joined, ahead of the others
 abbrev pub prefixed : List BoxType → Option Trees → Option Trees
@@ -175,6 +185,60 @@ ordinary_rule s ty.Never o a b c d e f = absurd (d refl)
 ordinary_rule s ty.Any o a b c d e f = absurd (e refl)
 ordinary_rule s ty.Object o a b c d e f = absurd (f refl)
 ordinary_rule _ _ o a b c d e f = refl
+
+-- the join by rule where a type is Any, object or Never
+pub any_left : (t : Tree) (o : Option Tree) → Some Any ≡ by_rule Any t o
+any_left Never o = refl
+any_left _ o = refl
+
+pub object_left : (t : BoxType) (o : Option Tree) → (t ≡ ty.Any → ⊥) → Some Object ≡ by_rule Object (tree_of t) o
+object_left ty.Any o n = absurd (n refl)
+object_left _ o n = refl
+
+pub never_right : (s : Tree) (o : Option Tree) → Some s ≡ by_rule s Never o
+never_right Never o = refl
+never_right _ o = refl
+
+pub any_right : (s : BoxType) (o : Option Tree) → (s ≡ ty.Never → ⊥) → Some Any ≡ by_rule (tree_of s) Any o
+any_right ty.Never o n = absurd (n refl)
+any_right _ o n = refl
+
+pub object_right : (s : BoxType) (o : Option Tree) → (s ≡ ty.Never → ⊥) → (s ≡ ty.Any → ⊥)
+    → Some Object ≡ by_rule (tree_of s) Object o
+object_right ty.Never o n m = absurd (n refl)
+object_right ty.Any o n m = absurd (m refl)
+object_right _ o n m = refl
+
+-- the join of two types, given whether they are equal
+pub equal_join : (bases : Bases) (s t : Tree) (b : Test) → b ≡ same_tree s t → b ≡ true → Some s ≡ join_of bases s t
+equal_join bases s t b e f = sym (ap (λ x. if x then Some s else by_rule s t (option_map union
+    (put_all bases t s (unabsorbed_members bases t s)))) (sym e ∙ f))
+
+pub rule_join : (bases : Bases) (s t : Tree) (b : Test) → b ≡ same_tree s t → b ≡ false
+    → by_rule s t (option_map union (put_all bases t s (unabsorbed_members bases t s))) ≡ join_of bases s t
+rule_join bases s t b e f = sym (ap (λ x. if x then Some s else by_rule s t (option_map union
+    (put_all bases t s (unabsorbed_members bases t s)))) (sym e ∙ f))
+
+-- two members of one head that no other side absorbs
+pub one_unabsorbed : (bases : Bases) (left right a b : Tree) (rest : Option Tree) → is_absorbed bases b left ≡ false
+    → is_absorbed bases a right ≡ false → ahead_of (one_of bases a b) rest ≡ one_with bases left right a b rest
+one_unabsorbed bases left right a b rest e f =
+    sym (ap (λ x. if x then kept_with bases a right rest else (if is_absorbed bases a right
+    then option_map (ahead b) rest else ahead_of (one_of bases a b) rest)) e
+    ∙ ap (λ x. if x then option_map (ahead b) rest else ahead_of (one_of bases a b) rest) f)
+
+pub one_kept : (bases : Bases) (left right a b : Tree) (rest : Option Tree) → is_absorbed bases b left ≡ true
+    → kept_with bases a right rest ≡ one_with bases left right a b rest
+one_kept bases left right a b rest e =
+    sym (ap (λ x. if x then kept_with bases a right rest else (if is_absorbed bases a right
+    then option_map (ahead b) rest else ahead_of (one_of bases a b) rest)) e)
+
+pub one_other : (bases : Bases) (left right a b : Tree) (rest : Option Tree) → is_absorbed bases b left ≡ false
+    → is_absorbed bases a right ≡ true → option_map (ahead b) rest ≡ one_with bases left right a b rest
+one_other bases left right a b rest e f =
+    sym (ap (λ x. if x then kept_with bases a right rest else (if is_absorbed bases a right
+    then option_map (ahead b) rest else ahead_of (one_of bases a b) rest)) e
+    ∙ ap (λ x. if x then option_map (ahead b) rest else ahead_of (one_of bases a b) rest) f)
 
 pub tuple_rule_at : (bases : Bases) (s : Tree) (ss : Trees) (t : Tree) → s ≡ TupleOf ss
     → by_rule s t (option_map union (put_all bases t s (unabsorbed_members bases t s))) ≡ join_of bases s t

@@ -1,11 +1,13 @@
 pub mod Absorbing
 pub mod Agree
 pub mod Ancestors
+pub mod Appended
 pub mod Complete
 pub mod Consistent
 pub mod DecidedSubtyping
 pub mod Deciding
 pub mod Descent
+pub mod EqualTypes
 pub mod Heads
 pub mod Incomparable
 pub mod JoinItself

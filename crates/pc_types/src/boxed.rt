@@ -127,9 +127,8 @@ impl TypeStore for BoxStore {
         if count_nodes(key) + count_nodes(value) >= LIMIT {
             return Ok(None);
         }
-        let key = copy(alloc, key)?;
-        let value = copy(alloc, value)?;
-        Ok(Some(BoxType::Dict(Box::new(alloc, key)?, Box::new(alloc, value)?)))
+        let key = Box::new(alloc, copy(alloc, key)?)?;
+        Ok(Some(BoxType::Dict(key, Box::new(alloc, copy(alloc, value)?)?)))
     }
 
     fn tuple(&mut self, alloc: Global, parts: &[BoxType]) -> Result<Option<BoxType>, OutOfMemory> {

@@ -1,17 +1,18 @@
 //! Joins of two types, and of several.
 
-ghost use Rattle.std.specs.Prelude.{◌≡◌, All, IfOk, MatchOption, Some, None, map, unwrap_or};
+ghost use Rattle.std.specs.Prelude.{◌≡◌, All, IfOk, MatchOption, MatchResult, Some, None, map, unwrap_or};
 ghost use Rattle.std.specs.Option.{option_map};
 ghost use Rattle.pc_types.specs.Tree.{Never, Object};
 ghost use Rattle.pc_types.specs.Normal.{IsNormal, AreNormal, IsOfMembers};
 ghost use Rattle.pc_types.specs.Shape.{ahead, union};
-ghost use Rattle.pc_types.specs.Join.{IsSplit, unabsorbed_members, by_rule, kept_with, one_with, one_of, parts_of};
+ghost use Rattle.pc_types.specs.Join.{IsSplit, unabsorbed_members, by_rule, kept_with, one_with, one_of, ahead_of};
+ghost use Rattle.pc_types.specs.Join.{parts_of};
 ghost use Rattle.pc_types.specs.Join.{put_all, join_each, join_of, join, within_limit};
 ghost use Rattle.pc_types.specs.JoinedTypes.{types_joined};
 ghost use Rattle.pc_types.specs.Boxed.{tree_of, trees_in, IsGiven};
 
 use crate::compare::{is_member_absorbed, is_same, stands_before};
-use crate::shape::{LIMIT, copy, count_nodes, put_ahead};
+use crate::shape::{LIMIT, copied_ahead, copy, count_nodes, put_ahead};
 use crate::{BoxStore, BoxType, Parents};
 use pc_source::OutOfMemory;
 use std::alloc::Global;
@@ -39,29 +40,63 @@ fn copy_ahead(
 {
     match rest {
         None => Ok(None),
-        Some(rest) => {
-            let m = copy(alloc, m)?;
-            Ok(Some(put_ahead(alloc, m, rest)?))
-        }
+        Some(rest) => Ok(Some(copied_ahead(alloc, m, rest)?)),
     }
 }
 
-/// Returns a copy of a member ahead of the members of `rest`, or `rest` alone if `other` absorbs the member.
+/// Returns a copy of a member ahead of the members of `rest`, or `rest` alone if `other` absorbs the member. An error
+/// in place of `rest` is passed on.
 fn kept_ahead(
     alloc: Global,
     parents: &Parents,
     m: &BoxType,
     other: &BoxType,
-    rest: Option<BoxType>,
+    rest: Result<Option<BoxType>, OutOfMemory>,
 ) -> Result<Option<BoxType>, OutOfMemory>
-    ensures { IfOk result (λ o. option_map tree_of o
-        ≡ kept_with parents.now (tree_of m.now) (tree_of other.now) (option_map tree_of rest)) }
+    ensures { IfOk result (λ o. MatchResult rest (λ r. option_map tree_of o
+        ≡ kept_with parents.now (tree_of m.now) (tree_of other.now) (option_map tree_of r)) (λ _. ⊥)) }
 {
+    let rest = rest?;
     if is_member_absorbed(parents, m, other) {
         Ok(rest)
     } else {
         copy_ahead(alloc, m, rest)
     }
+}
+
+/// Returns a member ahead of the members of `rest`, if both exist. An error in place of the member is passed on.
+fn both_ahead(
+    alloc: Global,
+    m: Result<Option<BoxType>, OutOfMemory>,
+    rest: Option<BoxType>,
+) -> Result<Option<BoxType>, OutOfMemory>
+    ensures { IfOk result (λ o. MatchResult m (λ m. option_map tree_of o
+        ≡ ahead_of (option_map tree_of m) (option_map tree_of rest)) (λ _. ⊥)) }
+{
+    match m {
+        Ok(Some(m)) => match rest {
+            Some(rest) => Ok(Some(put_ahead(alloc, m, rest)?)),
+            None => {
+                drop(m);
+                Ok(None)
+            }
+        },
+        Ok(None) => {
+            drop(rest);
+            Ok(None)
+        }
+        Err(error) => {
+            drop(rest);
+            Err(error)
+        }
+    }
+}
+
+/// Returns a copy of a type, as one that there is.
+fn copied(alloc: Global, t: &BoxType) -> Result<Option<BoxType>, OutOfMemory>
+    ensures { IfOk result (λ o. option_map tree_of o ≡ Some (tree_of t.now)) }
+{
+    Ok(Some(copy(alloc, t)?))
 }
 
 /// Returns the parts of a tuple, none of any other type.
@@ -166,7 +201,7 @@ fn joined(
         BoxType::Tuple(_) => ruled(alloc, parents, s, t),
         _ => {
             if is_same(s, t) {
-                Ok(Some(copy(alloc, s)?))
+                copied(alloc, s)
             } else {
                 ruled(alloc, parents, s, t)
             }
@@ -190,14 +225,14 @@ fn ruled(
         (unabsorbed_members parents.now (tree_of t.now) (tree_of s.now))))) }
 {
     match s {
-        BoxType::Never => Ok(Some(copy(alloc, t)?)),
+        BoxType::Never => copied(alloc, t),
         BoxType::Any => Ok(Some(BoxType::Any)),
         BoxType::Object => match t {
             BoxType::Any => Ok(Some(BoxType::Any)),
             _ => Ok(Some(BoxType::Object)),
         },
         _ => match t {
-            BoxType::Never => Ok(Some(copy(alloc, s)?)),
+            BoxType::Never => copied(alloc, s),
             BoxType::Any => Ok(Some(BoxType::Any)),
             BoxType::Object => Ok(Some(BoxType::Object)),
             _ => {
@@ -233,21 +268,21 @@ fn merged(
         None => match split(t, sides.never) {
             None => Ok(Some(BoxType::Never)),
             Some((b, others)) => {
-                let rest = merged(alloc, parents, sides, s, others)?;
+                let rest = merged(alloc, parents, sides, s, others);
                 kept_ahead(alloc, parents, b, sides.left, rest)
             }
         },
         Some((a, others)) => match split(t, sides.never) {
             None => {
-                let rest = merged(alloc, parents, sides, others, t)?;
+                let rest = merged(alloc, parents, sides, others, t);
                 kept_ahead(alloc, parents, a, sides.right, rest)
             }
             Some((b, bs)) => {
                 if stands_before(a, b) {
-                    let rest = merged(alloc, parents, sides, others, t)?;
+                    let rest = merged(alloc, parents, sides, others, t);
                     kept_ahead(alloc, parents, a, sides.right, rest)
                 } else if stands_before(b, a) {
-                    let rest = merged(alloc, parents, sides, s, bs)?;
+                    let rest = merged(alloc, parents, sides, s, bs);
                     kept_ahead(alloc, parents, b, sides.left, rest)
                 } else {
                     let rest = merged(alloc, parents, sides, others, bs)?;
@@ -276,18 +311,12 @@ fn one_ahead(
         (tree_of b.now) (option_map tree_of rest)) }
 {
     if is_member_absorbed(parents, b, sides.left) {
-        return kept_ahead(alloc, parents, a, sides.right, rest);
+        return kept_ahead(alloc, parents, a, sides.right, Ok(rest));
     }
     if is_member_absorbed(parents, a, sides.right) {
         return copy_ahead(alloc, b, rest);
     }
-    match one(alloc, parents, a, b)? {
-        None => Ok(None),
-        Some(m) => match rest {
-            None => Ok(None),
-            Some(rest) => Ok(Some(put_ahead(alloc, m, rest)?)),
-        },
-    }
+    both_ahead(alloc, one(alloc, parents, a, b), rest)
 }
 
 /// Merges two types of one head: tuples part by part, other types if they are equal. `None` if they cannot be merged.
@@ -309,7 +338,7 @@ fn one(
         },
         _ => {
             if is_same(a, b) {
-                Ok(Some(copy(alloc, a)?))
+                copied(alloc, a)
             } else {
                 Ok(None)
             }

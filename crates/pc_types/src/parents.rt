@@ -51,10 +51,8 @@ impl Parents {
         ensures { SomeIff result (AreSmaller bases.items) bases.items }
     {
         for i in 0..bases.len() {
-            if let Some(base) = base_in(&bases, i) {
-                if base >= i {
-                    return None;
-                }
+            if !has_smaller_base(&bases, i) {
+                return None;
             }
         }
         let alloc = *bases.allocator();
@@ -71,11 +69,7 @@ impl Parents {
         ensures { IfOk result (λ p. p ≡ self) }
     {
         let bases = self.bases;
-        let mut rungs = Vec::new(alloc);
-        for class in 0..bases.len() {
-            rungs.push(rung_of(&bases, &rungs, class))?;
-        }
-        let numbers = numbers_of(alloc, &bases)?;
+        let (rungs, numbers) = steps_of(alloc, &bases)?;
         Ok(Parents {
             bases,
             rungs,
@@ -159,6 +153,25 @@ fn base_in(bases: &[Option<usize>], class: usize) -> Option<usize>
     }
 }
 
+/// Returns whether the base of a class has a smaller number than the class, also if there is none.
+fn has_smaller_base(bases: &[Option<usize>], class: usize) -> bool
+    ensures { IsTrue result ↔ ((b : ℕ) → base_of bases.now class ≡ Some b → b < class) }
+{
+    match base_in(bases, class) {
+        Some(base) => base < class,
+        None => true,
+    }
+}
+
+/// Returns the rungs of the classes and the numbers of their bases.
+fn steps_of(alloc: Global, bases: &[Option<usize>]) -> Result<(Vec<Rung>, Vec<usize>), OutOfMemory>
+    requires { AreSmaller bases.now }
+    ensures { IfOk result (λ p. AreLeaps bases.now p.0.items × AreNumbers bases.now p.1.items) }
+{
+    let rungs = rungs_of(alloc, bases)?;
+    Ok((rungs, numbers_of(alloc, bases)?))
+}
+
 /// Returns the number of the base of a class, or of the class itself if it has none: a base has a smaller number.
 fn base_number(bases: &[Option<usize>], class: usize) -> usize
     ensures { result ≡ base_number bases.now class }
@@ -200,6 +213,18 @@ fn rung_at(rungs: &[Rung], class: usize) -> Rung
     ensures { slice_get rungs.now class ≡ Some result }
 {
     rungs[class]
+}
+
+/// Returns the rungs of the classes.
+fn rungs_of(alloc: Global, bases: &[Option<usize>]) -> Result<Vec<Rung>, OutOfMemory>
+    requires { AreSmaller bases.now }
+    ensures { IfOk result (λ rungs. AreLeaps bases.now rungs.items) }
+{
+    let mut rungs = Vec::new(alloc);
+    for class in 0..bases.len() {
+        rungs.push(rung_of(bases, &rungs, class))?;
+    }
+    Ok(rungs)
 }
 
 /// Returns the rung of a class, given those of the classes before it. Its leap spans the next two leaps from its base

@@ -1,6 +1,6 @@
 //! The form of boxed types: nodes, heads, parts, copies.
 
-ghost use Rattle.std.specs.Prelude.{◌≡◌, ◌<◌, ◌+◌, ◌++◌, min, map, length, slice_get, IfOk, OnOk, Some};
+ghost use Rattle.std.specs.Prelude.{◌≡◌, ◌<◌, ◌+◌, ◌++◌, ◌∷◌, [], min, map, length, slice_get, IfOk, OnOk, Some};
 ghost use Rattle.pc_types.specs.Shape.{nodes, nodes_of, parts, members, ahead, union};
 ghost use Rattle.pc_types.specs.Head.{head_of};
 ghost use Rattle.pc_types.specs.Boxed.{tree_of, trees_in};
@@ -64,15 +64,13 @@ pub(crate) fn copy(alloc: Global, t: &BoxType) -> Result<BoxType, OutOfMemory>
             Ok(BoxType::List(Box::new(alloc, item)?))
         }
         BoxType::Dict(key, value) => {
-            let key = copy(alloc, key)?;
-            let value = copy(alloc, value)?;
-            Ok(BoxType::Dict(Box::new(alloc, key)?, Box::new(alloc, value)?))
+            let key = Box::new(alloc, copy(alloc, key)?)?;
+            Ok(BoxType::Dict(key, Box::new(alloc, copy(alloc, value)?)?))
         }
         BoxType::Tuple(parts) => Ok(BoxType::Tuple(copies(alloc, parts)?)),
         BoxType::Union(first, others) => {
-            let first = copy(alloc, first)?;
-            let others = copy(alloc, others)?;
-            Ok(BoxType::Union(Box::new(alloc, first)?, Box::new(alloc, others)?))
+            let first = Box::new(alloc, copy(alloc, first)?)?;
+            Ok(BoxType::Union(first, Box::new(alloc, copy(alloc, others)?)?))
         }
     }
 }
@@ -152,6 +150,14 @@ pub(crate) fn part(t: &BoxType, number: usize) -> &BoxType
     }
 }
 
+/// Appends a copy of a type.
+fn push_copy(alloc: Global, t: &BoxType, out: &mut Vec<BoxType>) -> Result<(), OutOfMemory>
+    ensures { OnOk result (map tree_of out.new.items ≡ map tree_of out.old.items ++ (tree_of t.now ∷ [])) }
+{
+    out.push(copy(alloc, t)?)?;
+    Ok(())
+}
+
 /// Appends copies of the members of a type.
 fn push_members(alloc: Global, t: &BoxType, out: &mut Vec<BoxType>) -> Result<(), OutOfMemory>
     ensures { OnOk result (map tree_of out.new.items ≡ map tree_of out.old.items ++ members (tree_of t.now)) }
@@ -159,13 +165,10 @@ fn push_members(alloc: Global, t: &BoxType, out: &mut Vec<BoxType>) -> Result<()
     match t {
         BoxType::Never => Ok(()),
         BoxType::Union(first, others) => {
-            out.push(copy(alloc, first)?)?;
+            push_copy(alloc, first, out)?;
             push_members(alloc, others, out)
         }
-        _ => {
-            out.push(copy(alloc, t)?)?;
-            Ok(())
-        }
+        _ => push_copy(alloc, t, out),
     }
 }
 
@@ -178,16 +181,32 @@ pub(crate) fn members(alloc: Global, t: &BoxType) -> Result<Vec<BoxType>, OutOfM
     Ok(out)
 }
 
+/// Returns a list of a copy of one type.
+fn one_copy(alloc: Global, t: &BoxType) -> Result<Vec<BoxType>, OutOfMemory>
+    ensures { IfOk result (λ v. map tree_of v.items ≡ tree_of t.now ∷ []) }
+{
+    let mut out = Vec::with_capacity(alloc, 1)?;
+    push_copy(alloc, t, &mut out)?;
+    Ok(out)
+}
+
+/// Returns a list of copies of two types.
+fn two_copies(alloc: Global, s: &BoxType, t: &BoxType) -> Result<Vec<BoxType>, OutOfMemory>
+    ensures { IfOk result (λ v. map tree_of v.items ≡ tree_of s.now ∷ tree_of t.now ∷ []) }
+{
+    let mut out = Vec::with_capacity(alloc, 2)?;
+    push_copy(alloc, s, &mut out)?;
+    push_copy(alloc, t, &mut out)?;
+    Ok(out)
+}
+
 /// Returns copies of the parts of a type.
 pub(crate) fn parts(alloc: Global, t: &BoxType) -> Result<Vec<BoxType>, OutOfMemory>
     ensures { IfOk result (λ v. map tree_of v.items ≡ parts (tree_of t.now)) }
 {
     match t {
-        BoxType::List(item) => Ok(vec![in alloc; copy(alloc, item)?]?),
-        BoxType::Dict(key, value) => {
-            let key = copy(alloc, key)?;
-            Ok(vec![in alloc; key, copy(alloc, value)?]?)
-        }
+        BoxType::List(item) => one_copy(alloc, item),
+        BoxType::Dict(key, value) => two_copies(alloc, key, value),
         BoxType::Tuple(parts) => copies(alloc, parts),
         BoxType::Union(_, _) => members(alloc, t),
         _ => Ok(Vec::new(alloc)),
@@ -207,6 +226,23 @@ pub(crate) fn put_ahead(alloc: Global, m: BoxType, rest: BoxType) -> Result<BoxT
     }
 }
 
+/// Returns a type with a copy of a member ahead of those of another type.
+pub(crate) fn copied_ahead(
+    alloc: Global,
+    m: &BoxType,
+    rest: BoxType,
+) -> Result<BoxType, OutOfMemory>
+    ensures { IfOk result (λ u. tree_of u ≡ ahead (tree_of m.now) (tree_of rest)) }
+{
+    match copy(alloc, m) {
+        Ok(m) => put_ahead(alloc, m, rest),
+        Err(error) => {
+            drop(rest);
+            Err(error)
+        }
+    }
+}
+
 /// Returns the union of members.
 pub(crate) fn union(alloc: Global, types: &[BoxType]) -> Result<BoxType, OutOfMemory>
     ensures { IfOk result (λ u. tree_of u ≡ union (map tree_of types.now)) }
@@ -215,7 +251,7 @@ pub(crate) fn union(alloc: Global, types: &[BoxType]) -> Result<BoxType, OutOfMe
     let mut at = types.len();
     while at > 0 {
         at -= 1;
-        out = put_ahead(alloc, copy(alloc, &types[at])?, out)?;
+        out = copied_ahead(alloc, &types[at], out)?;
     }
     Ok(out)
 }

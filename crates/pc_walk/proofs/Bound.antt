@@ -10,7 +10,7 @@ use Rattle.pc_tree.specs.Depth.{place_of}
 use Rattle.pc_tree.specs.Tree.{Name, Ann, Expr}
 use Rattle.pc_annotations.specs.Listed.{ann_findings}
 use Rattle.pc_scope.specs.declared.resolution.NameMeaning.{NameMeaning}
-use Rattle.pc_scope.specs.declared.resolution.NameMeaning.TheVariants as res
+use Rattle.pc_scope.specs.declared.resolution.NameMeaning.TheVariants as meaning
 use Rattle.pc_types.specs.Tree.{Tree, Any}
 use Rattle.pc_types.specs.Below.{Bases}
 use Rattle.pc_types.specs.WellFormed.{IsWellFormed}
@@ -94,24 +94,24 @@ module _ {Store Ty : Type 0} (has : Store → Ty → Type 0) (tree : Ty → Tree
         is = a.is;
       }
 
-  settled_by : (o : Option Ty) (types : List (Option Ty)) (x : ℕ) (d : Ty) → HoldsType (has store) tree bases d
+  either_declared : (o : Option Ty) (types : List (Option Ty)) (x : ℕ) (d : Ty) → HoldsType (has store) tree bases d
       → HoldsTypes (has store) tree bases types → GivesTypes has tree bases store (with_declared o types x d)
       (with_declared (option_map tree o) (env_of tree types) x (tree d))
-  settled_by (Some c) types x d h k = record { holds = k; is = refl }
-  settled_by None types x d h k = set_gives types x d h k
+  either_declared (Some c) types x d h k = record { holds = k; is = refl }
+  either_declared None types x d h k = set_gives types x d h k
 
   pub bound_is : (types : List (Option Ty)) (x : ℕ) → bound_type (env_of tree types) x ≡ option_map tree
       (slice_index_or types x None)
   bound_is types x = local_current tree types x (slice_index_or types x None) refl
 
-  -- a local whose declared type is settled
-  pub settled_gives : (types : List (Option Ty)) (x : ℕ) (d : Ty) → HoldsType (has store) tree bases d
+  -- a local that is declared with this type, unless it has one already
+  pub declared_gives : (types : List (Option Ty)) (x : ℕ) (d : Ty) → HoldsType (has store) tree bases d
       → HoldsTypes (has store) tree bases types → GivesTypes has tree bases store
       (with_declared (slice_index_or types x None) types x d) (with_declared (bound_type (env_of tree types) x)
       (env_of tree types) x (tree d))
-  settled_gives types x d h k = subst (λ o. GivesTypes has tree bases store
+  declared_gives types x d h k = subst (λ o. GivesTypes has tree bases store
       (with_declared (slice_index_or types x None) types x d) (with_declared o (env_of tree types) x (tree d)))
-      (sym (bound_is types x)) (settled_by (slice_index_or types x None) types x d h k)
+      (sym (bound_is types x)) (either_declared (slice_index_or types x None) types x d h k)
 
   -- the declared type known for a local is well-formed
   known_by : (o annotation : Option Tree) → IsWellFormedIfAny bases o → IsWellFormedIfAny bases annotation
@@ -158,7 +158,7 @@ module _ {Store Ty : Type 0} (has : Store → Ty → Type 0) (tree : Ty → Tree
           well_formed = subst (IsWellFormed bases) (sym et)
               (assigned_well_formed bases (tree d) (tree l.ty) code hd.well_formed wl);
         } in
-        let declared = settled_gives types x d hd ht in
+        let declared = declared_gives types x d hd ht in
         let after = set_gives env x current current_holds he in
         let code_is : code ≡ code_unless (static_test bases) (assignable_test bases) (is_early m.codes) m.type
         (tree d) = ec ∙ code_alike tree bases l m (tree d) e in
@@ -210,41 +210,41 @@ first_finds context None n a e = refl
 pub value_unless : (context : BodyContext) (table : DeclaredTypes) (env : Env) (r : NameMeaning) (t : Tree) (e : Expr)
     (found : List Note) → bind_value context table env r (annotation_unless (bound_name context table r) t) e found
     ≡ bind_value context table env r (Some t) e found
-value_unless context table env (res.Local x) t e found = go (bound_type table x)
+value_unless context table env (meaning.Local x) t e found = go (bound_type table x)
   where
     go : (o : Option Tree) → bind_known context table env x (known_declared o (annotation_unless o t)) e found
         ≡ bind_known context table env x (known_declared o (Some t)) e found
     go None = refl
     go (Some d) = refl
-value_unless context table env (res.Const i) t e found = refl
-value_unless context table env (res.Func i) t e found = refl
-value_unless context table env (res.Class i) t e found = refl
-value_unless context table env (res.Builtin b) t e found = refl
-value_unless context table env res.None t e found = refl
+value_unless context table env (meaning.Const i) t e found = refl
+value_unless context table env (meaning.Func i) t e found = refl
+value_unless context table env (meaning.Class i) t e found = refl
+value_unless context table env (meaning.Builtin b) t e found = refl
+value_unless context table env meaning.None t e found = refl
 
 -- ---- names that are no locals
 
 pub value_elsewhere : (context : BodyContext) (table : DeclaredTypes) (env : Env) (r : NameMeaning) (a : Option Tree) (e : Expr)
-    (found : List Note) → ((x : ℕ) → r ≡ res.Local x → ⊥) → bind_value context table env r a e found
+    (found : List Note) → ((x : ℕ) → r ≡ meaning.Local x → ⊥) → bind_value context table env r a e found
     ≡ record { table = table; env = env; found = found ++ finds_in (standing_here context table env) None e }
-value_elsewhere context table env (res.Local x) a e found h = absurd (h x refl)
-value_elsewhere context table env (res.Const i) a e found h = refl
-value_elsewhere context table env (res.Func i) a e found h = refl
-value_elsewhere context table env (res.Class i) a e found h = refl
-value_elsewhere context table env (res.Builtin b) a e found h = refl
-value_elsewhere context table env res.None a e found h = refl
+value_elsewhere context table env (meaning.Local x) a e found h = absurd (h x refl)
+value_elsewhere context table env (meaning.Const i) a e found h = refl
+value_elsewhere context table env (meaning.Func i) a e found h = refl
+value_elsewhere context table env (meaning.Class i) a e found h = refl
+value_elsewhere context table env (meaning.Builtin b) a e found h = refl
+value_elsewhere context table env meaning.None a e found h = refl
 
 -- likewise the target of a `for`
 pub item_elsewhere : (context : BodyContext) (table : DeclaredTypes) (head : Env) (r : NameMeaning) (p : Place) (t : Tree)
     (found : List Note)
-    → ((x : ℕ) → r ≡ res.Local x → ⊥)
+    → ((x : ℕ) → r ≡ meaning.Local x → ⊥)
     → bind_item context table head r p t found ≡ record { table = table; env = head; found = found }
-item_elsewhere context table head (res.Local x) p t found h = absurd (h x refl)
-item_elsewhere context table head (res.Const i) p t found h = refl
-item_elsewhere context table head (res.Func i) p t found h = refl
-item_elsewhere context table head (res.Class i) p t found h = refl
-item_elsewhere context table head (res.Builtin b) p t found h = refl
-item_elsewhere context table head res.None p t found h = refl
+item_elsewhere context table head (meaning.Local x) p t found h = absurd (h x refl)
+item_elsewhere context table head (meaning.Const i) p t found h = refl
+item_elsewhere context table head (meaning.Func i) p t found h = refl
+item_elsewhere context table head (meaning.Class i) p t found h = refl
+item_elsewhere context table head (meaning.Builtin b) p t found h = refl
+item_elsewhere context table head meaning.None p t found h = refl
 
 -- ---- names that are annotated alone
 
@@ -255,27 +255,27 @@ module _ {Store Ty : Type 0} (has : Store → Ty → Type 0) (tree : Ty → Tree
   local_alone : (types : List (Option Ty)) (x : ℕ) (ty : Option Ty) (t : Tree) (o : Option Tree)
       → bound_type (env_of tree types) x ≡ o → option_map tree ty ≡ annotation_unless o t
       → HoldsTypeIfAny (has store) tree bases ty → HoldsTypes (has store) tree bases types
-      → GivesTypes has tree bases store (declared_by types (res.Local x) ty) (with_declared o (env_of tree types) x t)
+      → GivesTypes has tree bases store (declared_by types (meaning.Local x) ty) (with_declared o (env_of tree types) x t)
   local_alone types x None t (Some c) b e h k = record { holds = k; is = refl }
   local_alone types x (Some d) t (Some c) b e h k = absurd (grind (arith, e))
   local_alone types x None t None b e h k = absurd (grind (arith, e))
   local_alone types x (Some d) t None b e h k =
-      subst (λ u. GivesTypes has tree bases store (declared_by types (res.Local x) (Some d))
+      subst (λ u. GivesTypes has tree bases store (declared_by types (meaning.Local x) (Some d))
       (with_declared None (env_of tree types) x u)) (some_one e)
-      (subst (λ o. GivesTypes has tree bases store (declared_by types (res.Local x) (Some d))
-      (with_declared o (env_of tree types) x (tree d))) b (settled_gives has tree bases store types x d h k))
+      (subst (λ o. GivesTypes has tree bases store (declared_by types (meaning.Local x) (Some d))
+      (with_declared o (env_of tree types) x (tree d))) b (declared_gives has tree bases store types x d h k))
 
   pub alone_gives : (context : BodyContext) (types : List (Option Ty)) (r : NameMeaning) (ty : Option Ty) (t : Tree)
       → option_map tree ty ≡ annotation_unless (bound_name context (env_of tree types) r) t
       → HoldsTypeIfAny (has store) tree bases ty → HoldsTypes (has store) tree bases types
       → GivesTypes has tree bases store (declared_by types r ty) (declared_alone context (env_of tree types) r t)
-  alone_gives context types (res.Local x) ty t e h k = local_alone types x ty t (bound_type (env_of tree types) x) refl
+  alone_gives context types (meaning.Local x) ty t e h k = local_alone types x ty t (bound_type (env_of tree types) x) refl
       e h k
-  alone_gives context types (res.Const i) ty t e h k = record { holds = k; is = refl }
-  alone_gives context types (res.Func i) ty t e h k = record { holds = k; is = refl }
-  alone_gives context types (res.Class i) ty t e h k = record { holds = k; is = refl }
-  alone_gives context types (res.Builtin b) ty t e h k = record { holds = k; is = refl }
-  alone_gives context types res.None ty t e h k = record { holds = k; is = refl }
+  alone_gives context types (meaning.Const i) ty t e h k = record { holds = k; is = refl }
+  alone_gives context types (meaning.Func i) ty t e h k = record { holds = k; is = refl }
+  alone_gives context types (meaning.Class i) ty t e h k = record { holds = k; is = refl }
+  alone_gives context types (meaning.Builtin b) ty t e h k = record { holds = k; is = refl }
+  alone_gives context types meaning.None ty t e h k = record { holds = k; is = refl }
 
 -- the declared type known without an annotation is the one already bound
 pub known_bound : (o : Option Tree) → known_declared o None ≡ o
@@ -283,14 +283,14 @@ known_bound None = refl
 known_bound (Some d) = refl
 
 -- a local that gets Any where it has no declared type
-pub settled_any : {Store Ty : Type 0} (has : Store → Ty → Type 0) (tree : Ty → Tree) (bases : Bases) (store : Store)
+pub declared_any : {Store Ty : Type 0} (has : Store → Ty → Type 0) (tree : Ty → Tree) (bases : Bases) (store : Store)
     (types : List (Option Ty)) (x : ℕ) (d : Ty) → has store d → tree d ≡ Any → HoldsTypes (has store) tree bases types
     → GivesTypes has tree bases store (with_declared (slice_index_or types x None) types x d)
     (with_declared (bound_type (env_of tree types) x) (env_of tree types) x Any)
-settled_any has tree bases store types x d h e k =
+declared_any has tree bases store types x d h e k =
     subst (λ t. GivesTypes has tree bases store (with_declared (slice_index_or types x None) types x d)
     (with_declared (bound_type (env_of tree types) x) (env_of tree types) x t)) e
-    (settled_gives has tree bases store types x d (record {
+    (declared_gives has tree bases store types x d (record {
       given = h;
       well_formed = subst (IsWellFormed bases) (sym e)
           (tt, tt, omega arith);

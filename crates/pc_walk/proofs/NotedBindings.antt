@@ -6,7 +6,7 @@ use Rattle.std.specs.Prelude.{Bool as Test, if◌then◌else◌, slice_index_or,
 use Rattle.std.specs.Option.{option_map}
 use Rattle.pc_source.specs.declared.place.Place.{Place}
 use Rattle.pc_scope.specs.declared.resolution.NameMeaning.{NameMeaning}
-use Rattle.pc_scope.specs.declared.resolution.NameMeaning.TheVariants as res
+use Rattle.pc_scope.specs.declared.resolution.NameMeaning.TheVariants as meaning
 use Rattle.pc_types.specs.Tree.{Tree}
 use Rattle.pc_types.specs.declared.store.TypeStore.{Ghosts as StoreOf}
 use Rattle.pc_flow.specs.Environment.{Env, current}
@@ -63,25 +63,25 @@ kept : (keeps : Test) → keeps ≡ true → (valued : Test) (table : DeclaredTy
 kept true e valued table env r p found = refl
 kept false e valued table env r p found = absurd (cc e)
 
-no_local : (valued : Test) (table : DeclaredTypes) (env : Env) (r : NameMeaning) (p : Place) → ((x : ℕ) → r ≡ res.Local x → ⊥)
+no_local : (valued : Test) (table : DeclaredTypes) (env : Env) (r : NameMeaning) (p : Place) → ((x : ℕ) → r ≡ meaning.Local x → ⊥)
     → name_note valued table env r p ≡ []
-no_local valued table env (res.Local x) p h = absurd (h x refl)
-no_local valued table env (res.Const i) p h = refl
-no_local valued table env (res.Func i) p h = refl
-no_local valued table env (res.Class i) p h = refl
-no_local valued table env (res.Builtin b) p h = refl
-no_local valued table env res.None p h = refl
+no_local valued table env (meaning.Local x) p h = absurd (h x refl)
+no_local valued table env (meaning.Const i) p h = refl
+no_local valued table env (meaning.Func i) p h = refl
+no_local valued table env (meaning.Class i) p h = refl
+no_local valued table env (meaning.Builtin b) p h = refl
+no_local valued table env meaning.None p h = refl
 
 -- of a name that means no local
 pub no_note : (keeps : Test) → keeps ≡ true → (valued : Test) (table : DeclaredTypes) (env : Env) (r : NameMeaning) (p : Place)
-    (found : List Note) → ((x : ℕ) → r ≡ res.Local x → ⊥) → found ≡ notes_after keeps valued table env r p found
+    (found : List Note) → ((x : ℕ) → r ≡ meaning.Local x → ⊥) → found ≡ notes_after keeps valued table env r p found
 no_note keeps e valued table env r p found h =
     sym (append-nil found) ∙ ap (λ (l : List Note). found ++ l) (sym (no_local valued table env r p h))
     ∙ kept keeps e valued table env r p found
 
 -- of a local
 pub local_noted : (keeps : Test) → keeps ≡ true → (valued : Test) (table : DeclaredTypes) (env : Env) (r : NameMeaning) (x : ℕ)
-    (p : Place) (found : List Note) → r ≡ res.Local x
+    (p : Place) (found : List Note) → r ≡ meaning.Local x
     → found ++ local_note (bound_type table x) (if valued then current env x else None) p
     ≡ notes_after keeps valued table env r p found
 local_noted keeps e valued table env r x p found is =

@@ -4,7 +4,7 @@ use Rattle.std.specs.Prelude.{◌||◌, nat_eq}
 use Rattle.std.specs.List.{list_any, cons_option}
 use Rattle.pc_tree.specs.Tree.{Name}
 use Rattle.pc_scope.specs.declared.resolution.NameMeaning.{NameMeaning}
-use Rattle.pc_scope.specs.declared.resolution.NameMeaning.TheVariants as res
+use Rattle.pc_scope.specs.declared.resolution.NameMeaning.TheVariants as meaning
 use Rattle.pc_flow.specs.Narrowing.{as_local}
 use Rattle.pc_module_rules.specs.Statements.{binds_number, is_local_number}
 use Rattle.pc_module_rules.specs.Computed.Statements.{BodyContext, DeclaredTypes, unreached_name, unreached_names}
@@ -20,12 +20,12 @@ numbers_bind resolve (n ∷ ns) x = go (resolve n.text) ∙ ap (λ b. is_local_n
   where
     go : (r : NameMeaning) → list_any (nat_eq x) (cons_option (as_local r) (numbers_of resolve ns))
         ≡ (is_local_number x r || list_any (nat_eq x) (numbers_of resolve ns))
-    go (res.Local y) = refl
-    go (res.Const y) = refl
-    go (res.Func y) = refl
-    go (res.Class y) = refl
-    go (res.Builtin b) = refl
-    go res.None = refl
+    go (meaning.Local y) = refl
+    go (meaning.Const y) = refl
+    go (meaning.Func y) = refl
+    go (meaning.Class y) = refl
+    go (meaning.Builtin b) = refl
+    go meaning.None = refl
 
 -- locals that no run binds, by their numbers
 pub unreached_by : (context : BodyContext) (table : DeclaredTypes) (names : List Name)
@@ -36,9 +36,9 @@ unreached_by context table (n ∷ ns) = go (context.context.resolve n.text) (λ 
     go : (r : NameMeaning) → ((t : DeclaredTypes) → unreached_numbers t (numbers_of context.context.resolve ns) ≡ unreached_names
         context t ns) → unreached_numbers table (cons_option (as_local r) (numbers_of context.context.resolve ns))
         ≡ unreached_names context (unreached_name context table r) ns
-    go (res.Local y) h = h (unreached_name context table (res.Local y))
-    go (res.Const y) h = h table
-    go (res.Func y) h = h table
-    go (res.Class y) h = h table
-    go (res.Builtin b) h = h table
-    go res.None h = h table
+    go (meaning.Local y) h = h (unreached_name context table (meaning.Local y))
+    go (meaning.Const y) h = h table
+    go (meaning.Func y) h = h table
+    go (meaning.Class y) h = h table
+    go (meaning.Builtin b) h = h table
+    go meaning.None h = h table

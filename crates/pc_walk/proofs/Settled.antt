@@ -44,14 +44,14 @@ module _ (bases : Bases) where
   more_taken_in unsettled touched None base h = tt
   more_taken_in unsettled touched (Some way) base h = λ x k. h x (outside_both unsettled touched x k).0
 
-  -- where a way that takes in what comes out of a suite meets it, it takes in what stood before that suite
+  -- a way that takes in the environment at the end of a suite takes in the one before the suite, where they agree
   pub before_taken_in : (touched unsettled : List ℕ) (met out base : Env) → TakesInOutside bases unsettled met out
       → AgreeOutside touched out base → TakesInOutside bases (touched ++ unsettled) met base
   before_taken_in touched unsettled met out base h a = λ x k.
       let parts = outside_both touched unsettled x k in
       subst (TakesIn bases (current met x)) (a x parts.0) (h x parts.1)
 
-  -- and what stands before the next one
+  -- and the one before the next suite
   pub next_taken_in : (unsettled touched : List ℕ) (way : Option Env) (last next : Env)
       → ((x : ℕ) → is_among touched x ≡ true → is_among unsettled x ≡ true) → AgreeOutside touched next last
       → TakesInIfAny bases unsettled way last → TakesInIfAny bases unsettled way next

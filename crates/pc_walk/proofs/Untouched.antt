@@ -12,7 +12,7 @@ use Rattle.pc_tree.specs.Tree.{conditional, no_stmts, more_stmts, no_branches, m
 use Rattle.pc_tree.specs.Stopping.{bound_by, bound_by_stmt, bound_by_branches, name_of_target}
 use Rattle.pc_tree.specs.Depth.{place_of}
 use Rattle.pc_scope.specs.declared.resolution.NameMeaning.{NameMeaning}
-use Rattle.pc_scope.specs.declared.resolution.NameMeaning.TheVariants as res
+use Rattle.pc_scope.specs.declared.resolution.NameMeaning.TheVariants as meaning
 use Rattle.pc_types.specs.Tree.{Tree, Any}
 use Rattle.pc_flow.specs.Environment.{Env, current, join_env}
 use Rattle.pc_flow.specs.Narrowing.{as_local}
@@ -51,12 +51,12 @@ declared_long None table x t = length-set table x (Some t)
 
 module _ (context : BodyContext) where
   unreached_long_at : (table : DeclaredTypes) (r : NameMeaning) → length (unreached_name context table r) ≡ length table
-  unreached_long_at table (res.Local x) = declared_long (bound_type table x) table x Any
-  unreached_long_at table (res.Const i) = refl
-  unreached_long_at table (res.Func i) = refl
-  unreached_long_at table (res.Class i) = refl
-  unreached_long_at table (res.Builtin b) = refl
-  unreached_long_at table res.None = refl
+  unreached_long_at table (meaning.Local x) = declared_long (bound_type table x) table x Any
+  unreached_long_at table (meaning.Const i) = refl
+  unreached_long_at table (meaning.Func i) = refl
+  unreached_long_at table (meaning.Class i) = refl
+  unreached_long_at table (meaning.Builtin b) = refl
+  unreached_long_at table meaning.None = refl
 
   unreached_long : (table : DeclaredTypes) (names : List Name) → length (unreached_names context table names) ≡ length table
   unreached_long table [] = refl
@@ -64,12 +64,12 @@ module _ (context : BodyContext) where
       ∙ unreached_long_at table (context.context.resolve n.text)
 
   alone_long : (table : DeclaredTypes) (r : NameMeaning) (t : Tree) → length (declared_alone context table r t) ≡ length table
-  alone_long table (res.Local x) t = declared_long (bound_type table x) table x t
-  alone_long table (res.Const i) t = refl
-  alone_long table (res.Func i) t = refl
-  alone_long table (res.Class i) t = refl
-  alone_long table (res.Builtin b) t = refl
-  alone_long table res.None t = refl
+  alone_long table (meaning.Local x) t = declared_long (bound_type table x) table x t
+  alone_long table (meaning.Const i) t = refl
+  alone_long table (meaning.Func i) t = refl
+  alone_long table (meaning.Class i) t = refl
+  alone_long table (meaning.Builtin b) t = refl
+  alone_long table meaning.None t = refl
 
 -- ---- locals of some kind, in a function
 
@@ -108,12 +108,12 @@ module _ (context : BodyContext) (Kind : ℕ → Type 0) (base : Env) (fine : (x
       go : (r : NameMeaning) → MeaningApart r (numbers_of context.context.resolve ns)
           → (NamesApart ns → binds_number context.context.resolve ns x ≡ false)
           → (is_local_number x r || binds_number context.context.resolve ns x) ≡ false
-      go (res.Local y) h f = ap (λ b. b || binds_number context.context.resolve ns x) (not_equal x y k h.0) ∙ f h.1
-      go (res.Const y) h f = f h
-      go (res.Func y) h f = f h
-      go (res.Class y) h f = f h
-      go (res.Builtin b) h f = f h
-      go res.None h f = f h
+      go (meaning.Local y) h f = ap (λ b. b || binds_number context.context.resolve ns x) (not_equal x y k h.0) ∙ f h.1
+      go (meaning.Const y) h f = f h
+      go (meaning.Func y) h f = f h
+      go (meaning.Class y) h f = f h
+      go (meaning.Builtin b) h f = f h
+      go meaning.None h f = f h
 
   -- ---- conditions, heads of loops, and ways that meet
 
@@ -164,15 +164,15 @@ module _ (context : BodyContext) (Kind : ℕ → Type 0) (base : Env) (fine : (x
   value_here : (table : DeclaredTypes) (env : Env) (r : NameMeaning) (annotation : Option Tree) (e : Expr) (found : List Note)
       → length table ≡ length base → MeaningApart r [] → Here env
       → BindingHere (bind_value context table env r annotation e found)
-  value_here table env (res.Local x) annotation e found l a h =
+  value_here table env (meaning.Local x) annotation e found l a h =
       label_here table env x (known_declared (bound_type table x) annotation) (place_of e)
       (label_in (standing_here context table env) (known_declared (bound_type table x) annotation) e)
       (found ++ finds_in (standing_here context table env) (known_declared (bound_type table x) annotation) e) l a.0 h
-  value_here table env (res.Const i) annotation e found l a h = record { long = l; env_here = h }
-  value_here table env (res.Func i) annotation e found l a h = record { long = l; env_here = h }
-  value_here table env (res.Class i) annotation e found l a h = record { long = l; env_here = h }
-  value_here table env (res.Builtin b) annotation e found l a h = record { long = l; env_here = h }
-  value_here table env res.None annotation e found l a h = record { long = l; env_here = h }
+  value_here table env (meaning.Const i) annotation e found l a h = record { long = l; env_here = h }
+  value_here table env (meaning.Func i) annotation e found l a h = record { long = l; env_here = h }
+  value_here table env (meaning.Class i) annotation e found l a h = record { long = l; env_here = h }
+  value_here table env (meaning.Builtin b) annotation e found l a h = record { long = l; env_here = h }
+  value_here table env meaning.None annotation e found l a h = record { long = l; env_here = h }
 
   -- with the note of the name
   pub noted_here : (keeps valued : Test) (r : NameMeaning) (p : Place) (b : BindingResult) → BindingHere b
@@ -206,13 +206,13 @@ module _ (context : BodyContext) (Kind : ℕ → Type 0) (base : Env) (fine : (x
       (others : List ℕ)
       → length table ≡ length base → MeaningApart r others → Here head
       → BindingHere (bind_item context table head r p t found)
-  item_here table head (res.Local x) p t found others l a h = label_here table head x (bound_type table x) p (clean t)
+  item_here table head (meaning.Local x) p t found others l a h = label_here table head x (bound_type table x) p (clean t)
       found l a.0 h
-  item_here table head (res.Const i) p t found others l a h = record { long = l; env_here = h }
-  item_here table head (res.Func i) p t found others l a h = record { long = l; env_here = h }
-  item_here table head (res.Class i) p t found others l a h = record { long = l; env_here = h }
-  item_here table head (res.Builtin b) p t found others l a h = record { long = l; env_here = h }
-  item_here table head res.None p t found others l a h = record { long = l; env_here = h }
+  item_here table head (meaning.Const i) p t found others l a h = record { long = l; env_here = h }
+  item_here table head (meaning.Func i) p t found others l a h = record { long = l; env_here = h }
+  item_here table head (meaning.Class i) p t found others l a h = record { long = l; env_here = h }
+  item_here table head (meaning.Builtin b) p t found others l a h = record { long = l; env_here = h }
+  item_here table head meaning.None p t found others l a h = record { long = l; env_here = h }
 
   -- ---- statements
 
@@ -220,53 +220,53 @@ module _ (context : BodyContext) (Kind : ℕ → Type 0) (base : Env) (fine : (x
   pub record WalkHere (before : Option Env) (w : Walk) : Type 0 where
     pub long : length w.table ≡ length base
     pub env_here : IsKeptIfAny Kind base w.env
-    pub broken_here : IsKeptIfAny Kind base before → IsKeptIfAny Kind base w.broken
+    pub exit_env_here : IsKeptIfAny Kind base before → IsKeptIfAny Kind base w.exit_env
 
   -- and after branches
   pub record ForkHere (before : Option Env) (f : BranchesResult) : Type 0 where
     pub long : length f.table ≡ length base
     pub last_here : IsKept Kind base f.last
     pub ways_here : IsKeptIfAny Kind base f.ways
-    pub broken_here : IsKeptIfAny Kind base before → IsKeptIfAny Kind base f.broken
+    pub exit_env_here : IsKeptIfAny Kind base before → IsKeptIfAny Kind base f.exit_env
 
   abbrev TestsApart : List ℕ → Type 0
   TestsApart locals = AreApart Kind base locals
 
-  still : (table : DeclaredTypes) (env broken : Option Env) (found : List Note) → length table ≡ length base → HereIfAny env
-      → WalkHere broken (record { table = table; env = env; broken = broken; found = found })
-  still table env broken found l h = record { long = l; env_here = h; broken_here = λ k. k }
+  still : (table : DeclaredTypes) (env exit_env : Option Env) (found : List Note) → length table ≡ length base → HereIfAny env
+      → WalkHere exit_env (record { table = table; env = env; exit_env = exit_env; found = found })
+  still table env exit_env found l h = record { long = l; env_here = h; exit_env_here = λ k. k }
 
   mutual
-    pub step_here : (table : DeclaredTypes) (env broken : Option Env) (found : List Note) (s : Stmt)
+    pub step_here : (table : DeclaredTypes) (env exit_env : Option Env) (found : List Note) (s : Stmt)
         → length table ≡ length base → HereIfAny env → NamesApart (bound_by_stmt s)
-        → TestsApart (tested_in_stmt context.context.resolve s) → WalkHere broken
-        (step context table env broken found s)
-    step_here table None broken found s l h n t = record {
+        → TestsApart (tested_in_stmt context.context.resolve s) → WalkHere exit_env
+        (step context table env exit_env found s)
+    step_here table None exit_env found s l h n t = record {
       long = unreached_long context table (bound_by_stmt s)
           ∙ l;
       env_here = tt;
-      broken_here = λ k. k;
+      exit_env_here = λ k. k;
     }
-    step_here table (Some env) broken found (pass p) l h n t = record { long = l; env_here = h; broken_here = λ k. k }
-    step_here table (Some env) broken found (breaks p) l h n t =
-        record { long = l; env_here = tt; broken_here = λ k. break_here table broken env l k h }
-    step_here table (Some env) broken found (continues p) l h n t =
-        record { long = l; env_here = tt; broken_here = λ k. k }
-    step_here table (Some env) broken found (returns p e) l h n t =
-        record { long = l; env_here = tt; broken_here = λ k. k }
-    step_here table (Some env) broken found (asserts p c e) l h n t =
-        record { long = l; env_here = narrowed_here table true c env l t h; broken_here = λ k. k }
-    step_here table (Some env) broken found (annotated p m a e) l h n t =
+    step_here table (Some env) exit_env found (pass p) l h n t = record { long = l; env_here = h; exit_env_here = λ k. k }
+    step_here table (Some env) exit_env found (breaks p) l h n t =
+        record { long = l; env_here = tt; exit_env_here = λ k. break_here table exit_env env l k h }
+    step_here table (Some env) exit_env found (continues p) l h n t =
+        record { long = l; env_here = tt; exit_env_here = λ k. k }
+    step_here table (Some env) exit_env found (returns p e) l h n t =
+        record { long = l; env_here = tt; exit_env_here = λ k. k }
+    step_here table (Some env) exit_env found (asserts p c e) l h n t =
+        record { long = l; env_here = narrowed_here table true c env l t h; exit_env_here = λ k. k }
+    step_here table (Some env) exit_env found (annotated p m a e) l h n t =
         let r = context.context.resolve m.text in
         let b = noted_here context.keeps (is_some e) r m.place (annotated_binding context table env r m a e found)
         (annotated_here table env m a e found l n h) in
-        record { long = b.long; env_here = b.env_here; broken_here = λ k. k }
-    step_here table (Some env) broken found (assigns p g e) l h n t =
+        record { long = b.long; env_here = b.env_here; exit_env_here = λ k. k }
+    step_here table (Some env) exit_env found (assigns p g e) l h n t =
         let b = target_here table env g e found l n h in
-        record { long = b.long; env_here = b.env_here; broken_here = λ k. k }
-    step_here table (Some env) broken found (evaluates p e) l h n t =
-        record { long = l; env_here = h; broken_here = λ k. k }
-    step_here table (Some env) broken found (while_loop p c b) l h n t =
+        record { long = b.long; env_here = b.env_here; exit_env_here = λ k. k }
+    step_here table (Some env) exit_env found (evaluates p e) l h n t =
+        record { long = l; env_here = h; exit_env_here = λ k. k }
+    step_here table (Some env) exit_env found (while_loop p c b) l h n t =
         let tests = apart_both Kind base (tested_locals context.context.resolve c) (tested_in context.context.resolve b)
         t in
         let head = head_at context table (bound_by b) env in
@@ -274,17 +274,17 @@ module _ (context : BodyContext) (Kind : ℕ → Type 0) (base : Env) (fine : (x
         let body = suite_here (record {
           table = table;
           env = Some (narrowed_at context table true c head);
-          broken =
+          exit_env =
               Some (narrowed_at context table false c head);
           found = found ++ finds_in (standing_here context table head) None c;
         }) b
         l (narrowed_here table true c head l tests.0 k) n tests.1 in
         record {
           long = body.long;
-          env_here = body.broken_here (narrowed_here table false c head l tests.0 k);
-          broken_here = λ k. k;
+          env_here = body.exit_env_here (narrowed_here table false c head l tests.0 k);
+          exit_env_here = λ k. k;
         }
-    step_here table (Some env) broken found (for_loop p m e b) l h n tests =
+    step_here table (Some env) exit_env found (for_loop p m e b) l h n tests =
         let names = names_both (m ∷ []) (bound_by b) n in
         let head = head_at context table (m ∷ bound_by b) env in
         let k = head_here table (m ∷ bound_by b) env l n h in
@@ -295,8 +295,8 @@ module _ (context : BodyContext) (Kind : ℕ → Type 0) (base : Env) (fine : (x
         let inside = noted_here context.keeps true r m.place (bind_item context table head r (place_of e) t before)
         (item_here table head r (place_of e) t before [] l names.0 k) in
         let body = suite_here _ b inside.long inside.env_here names.1 tests in
-        record { long = body.long; env_here = body.broken_here k; broken_here = λ k. k }
-    step_here table (Some env) broken found (conditional p bs o) l h n t =
+        record { long = body.long; env_here = body.exit_env_here k; exit_env_here = λ k. k }
+    step_here table (Some env) exit_env found (conditional p bs o) l h n t =
         let names = names_both (bound_by_branches bs) (bound_by o) n in
         let tests = apart_both Kind base (tested_in_branches context.context.resolve bs)
         (tested_in context.context.resolve o) t in
@@ -304,38 +304,38 @@ module _ (context : BodyContext) (Kind : ℕ → Type 0) (base : Env) (fine : (x
           table = table;
           last = env;
           ways = None;
-          broken = broken;
+          exit_env = exit_env;
           found =
               found;
         } in
         let fork = branches_here start bs l h tt names.0 tests.0 in
         let f = walk_branches context start bs in
-        let last = suite_here (record { table = f.table; env = Some f.last; broken = f.broken; found = f.found }) o
+        let last = suite_here (record { table = f.table; env = Some f.last; exit_env = f.exit_env; found = f.found }) o
         fork.long fork.last_here names.1 tests.1 in
-        let w = walk_suite context (record { table = f.table; env = Some f.last; broken = f.broken; found = f.found })
+        let w = walk_suite context (record { table = f.table; env = Some f.last; exit_env = f.exit_env; found = f.found })
         o in
         record {
           long = last.long;
           env_here = way_here w.table f.ways w.env last.long fork.ways_here last.env_here;
-          broken_here = λ k. last.broken_here (fork.broken_here k);
+          exit_env_here = λ k. last.exit_env_here (fork.exit_env_here k);
         }
 
     pub suite_here : (w : Walk) (b : Stmts) → length w.table ≡ length base → HereIfAny w.env → NamesApart (bound_by b)
-        → TestsApart (tested_in context.context.resolve b) → WalkHere w.broken (walk_suite context w b)
-    suite_here w no_stmts l h n t = record { long = l; env_here = h; broken_here = λ k. k }
+        → TestsApart (tested_in context.context.resolve b) → WalkHere w.exit_env (walk_suite context w b)
+    suite_here w no_stmts l h n t = record { long = l; env_here = h; exit_env_here = λ k. k }
     suite_here w (more_stmts s rest) l h n t =
         let names = names_both (bound_by_stmt s) (bound_by rest) n in
         let tests = apart_both Kind base (tested_in_stmt context.context.resolve s)
         (tested_in context.context.resolve rest) t in
-        let first = step_here w.table w.env w.broken w.found s l h names.0 tests.0 in
-        let next = suite_here (step context w.table w.env w.broken w.found s) rest first.long first.env_here names.1
+        let first = step_here w.table w.env w.exit_env w.found s l h names.0 tests.0 in
+        let next = suite_here (step context w.table w.env w.exit_env w.found s) rest first.long first.env_here names.1
         tests.1 in
-        record { long = next.long; env_here = next.env_here; broken_here = λ k. next.broken_here (first.broken_here k) }
+        record { long = next.long; env_here = next.env_here; exit_env_here = λ k. next.exit_env_here (first.exit_env_here k) }
 
     pub branches_here : (f : BranchesResult) (bs : Branches) → length f.table ≡ length base → Here f.last
         → HereIfAny f.ways → NamesApart (bound_by_branches bs) → TestsApart
-        (tested_in_branches context.context.resolve bs) → ForkHere f.broken (walk_branches context f bs)
-    branches_here f no_branches l h w n t = record { long = l; last_here = h; ways_here = w; broken_here = λ k. k }
+        (tested_in_branches context.context.resolve bs) → ForkHere f.exit_env (walk_branches context f bs)
+    branches_here f no_branches l h w n t = record { long = l; last_here = h; ways_here = w; exit_env_here = λ k. k }
     branches_here f (more_branches c b rest) l h w n t =
         let names = names_both (bound_by b) (bound_by_branches rest) n in
         let tests = apart_both Kind base (tested_locals context.context.resolve c)
@@ -345,8 +345,8 @@ module _ (context : BodyContext) (Kind : ℕ → Type 0) (base : Env) (fine : (x
         let start : Walk = record {
           table = f.table;
           env = Some (narrowed_at context f.table true c f.last);
-          broken =
-              f.broken;
+          exit_env =
+              f.exit_env;
           found = f.found ++ finds_in (standing_here context f.table f.last) None c;
         } in
         let body = suite_here start b l (narrowed_here f.table true c f.last l tests.0 h) names.0 later.0 in
@@ -356,7 +356,7 @@ module _ (context : BodyContext) (Kind : ℕ → Type 0) (base : Env) (fine : (x
           last = narrowed_at context f.table false c f.last;
           ways =
               with_way context.context.bases out.table f.ways out.env;
-          broken = out.broken;
+          exit_env = out.exit_env;
           found = out.found;
         }) rest
         body.long (narrowed_here f.table false c f.last l tests.0 h)
@@ -365,8 +365,8 @@ module _ (context : BodyContext) (Kind : ℕ → Type 0) (base : Env) (fine : (x
           long = next.long;
           last_here = next.last_here;
           ways_here = next.ways_here;
-          broken_here =
-              λ k. next.broken_here (body.broken_here k);
+          exit_env_here =
+              λ k. next.exit_env_here (body.exit_env_here k);
         }
 
 -- ---- the law
@@ -388,10 +388,10 @@ kept_as locals base None h = tt
 kept_as locals base (Some env) h = record { long = h.long; same = h.same }
 
 pub untouched_kept : SuitesKeepUntouchedLocals
-untouched_kept context table env broken found b locals l w a =
+untouched_kept context table env exit_env found b locals l w a =
     let apart = apart_both (λ x. is_among locals x ≡ false) env (numbers_of context.context.resolve (bound_by b))
     (tested_in context.context.resolve b) (among_apart locals env (touched_by context.context.resolve b) a) in
-    let start : Walk = record { table = table; env = Some env; broken = broken; found = found } in
+    let start : Walk = record { table = table; env = Some env; exit_env = exit_env; found = found } in
     let behind = suite_here context (λ x. is_among locals x ≡ false) env
     (λ x k. current_well_formed context.context.bases env x w) start b l
     (record { long = refl; same = λ x k. refl }) apart.0 apart.1 in
@@ -399,7 +399,7 @@ untouched_kept context table env broken found b locals l w a =
     record {
       long = behind.long ∙ sym l;
       behind = kept_as locals env out.env behind.env_here;
-      out_of_loop = λ k. kept_as locals env out.broken (behind.broken_here (as_kept locals env broken k));
+      out_of_loop = λ k. kept_as locals env out.exit_env (behind.exit_env_here (as_kept locals env exit_env k));
     }
 
 -- ---- numbers of locals

@@ -14,7 +14,7 @@ use Rattle.pc_walk.specs.declared.context.BodyContext.{BodyContext as RustBodyCo
 use Rattle.pc_walk.specs.StatementsHeld.{body_context_with, HoldsContext, HoldsType, HoldsTypeIfAny, HoldsTypes}
 use Rattle.pc_walk.specs.StatementsHeld.{HoldsTypesIfAny}
 use Rattle.pc_walk.specs.declared.walk.Walk.{Walk}
-use Rattle.pc_walk.specs.Walks.{HoldsOne, HoldsWant, HoldsEnv, HoldsWay, IsEnv, WalkKept, IsQuiet, Stands, Found}
+use Rattle.pc_walk.specs.Walks.{HoldsOne, HoldsWant, HoldsEnv, HoldsWay, IsEnv, WalkKept, IsQuiet, IsValidIn, Found}
 use Rattle.pc_walk.specs.Walks.{BindsName, body_context_in, standing_in}
 use Rattle.pc_walk.proofs.Held.{type_kept, type_kept_if_any, types_kept, types_kept_if_any, context_kept}
 
@@ -92,9 +92,9 @@ module _ {Store Ty : Type 0} (S : StoreOf Store Ty) (old new : Walk Store Ty) wh
   context_on h g = in_body_context (λ (f : RustBodyContext Ty). HoldsContext (S.has new.store.now) S.tree f) g
       (context_kept S.has old.store.now new.store.now g.kept S.tree old.context h)
 
-  -- a walk that stood stands later, where it declared nothing
-  pub stands_on : (env : List (Option Ty)) → Stands S old env → WalkKept S old new
-      → new.declared.now ≡ old.declared.now → Stands S new env
+  -- a walk stays valid over a step that declares nothing
+  pub stands_on : (env : List (Option Ty)) → IsValidIn S old env → WalkKept S old new
+      → new.declared.now ≡ old.declared.now → IsValidIn S new env
   stands_on env h g d = record {
     context = context_on h.context g;
     declared = subst (λ (ds : List (Option Ty)). HoldsEnv S new ds) (sym d) (env_kept old.declared.now g h.declared);
@@ -103,12 +103,12 @@ module _ {Store Ty : Type 0} (S : StoreOf Store Ty) (old new : Walk Store Ty) wh
 
   -- the findings of a step that declared nothing
   pub found_by : (env : List (Option Ty)) (finds : BodyContext → Standing → List Note)
-      → Stands S old env → WalkKept S old new → new.declared.now ≡ old.declared.now
+      → IsValidIn S old env → WalkKept S old new → new.declared.now ≡ old.declared.now
       → notes_of new.found.now ≡ notes_of old.found.now ++ finds (body_context_in S old) (standing_in S old env)
       → Found S old env new finds
   found_by env finds h g d e = record { pushed = e; declared = d; stands = stands_on env h g d }
 
-  -- a later walk stands in the same
+  -- a later walk that declared nothing has the same standing
   pub same_standing : {A : Type 0} (env : List (Option Ty)) (f : BodyContext → Standing → A)
       → WalkKept S old new → new.declared.now ≡ old.declared.now
       → f (body_context_in S new) (standing_in S new env) ≡ f (body_context_in S old) (standing_in S old env)

@@ -60,19 +60,19 @@ IsAsOutsideIfAny locals base (Some env) = IsAsOutside locals base env
 
 -- a walk from an environment reaches a table of as many locals, and an environment that agrees with it at each local
 -- that is not among these; so does the exit environment of the enclosing loop, if it did before
-pub record KeepsOutside (locals : List ℕ) (table : DeclaredTypes) (env : Env) (broken : Option Env) (w : Walk) : Type 0 where
+pub record KeepsOutside (locals : List ℕ) (table : DeclaredTypes) (env : Env) (exit_env : Option Env) (w : Walk) : Type 0 where
   pub long : length w.table ≡ length table
   pub behind : IsAsOutsideIfAny locals env w.env
-  pub out_of_loop : IsAsOutsideIfAny locals env broken → IsAsOutsideIfAny locals env w.broken
+  pub out_of_loop : IsAsOutsideIfAny locals env exit_env → IsAsOutsideIfAny locals env w.exit_env
 
 -- the law that a walk over a suite, from an environment of well-formed types with as many locals as the table, leaves
 -- each local that the suite does not touch unchanged
 abbrev pub SuitesKeepUntouchedLocals : Type 0
 SuitesKeepUntouchedLocals =
-    (context : BodyContext) (table : DeclaredTypes) (env : Env) (broken : Option Env) (found : List Note) (b : Stmts)
+    (context : BodyContext) (table : DeclaredTypes) (env : Env) (exit_env : Option Env) (found : List Note) (b : Stmts)
     (locals : List ℕ)
     → length table ≡ length env
     → IsWellFormedEnv context.context.bases env
     → AreAmong locals (touched_by context.context.resolve b)
-    → KeepsOutside locals table env broken
-    (walk_suite context (record { table = table; env = Some env; broken = broken; found = found }) b)
+    → KeepsOutside locals table env exit_env
+    (walk_suite context (record { table = table; env = Some env; exit_env = exit_env; found = found }) b)

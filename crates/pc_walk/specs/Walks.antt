@@ -73,7 +73,7 @@ module _ {Store Ty : Type 0} (S : StoreOf Store Ty) where
 
   -- the walk is valid in this environment: the store gave all types, all are well-formed, and names mean what the
   -- scopes say
-  pub record Stands (w : Walk Store Ty) (env : List (Option Ty)) : Type 0 where
+  pub record IsValidIn (w : Walk Store Ty) (env : List (Option Ty)) : Type 0 where
     pub context : HoldsContext (S.has w.store.now) S.tree w.context
     pub declared : HoldsTypes (S.has w.store.now) S.tree (class_parents w.context.globals.now) w.declared.now
     pub current : HoldsTypes (S.has w.store.now) S.tree (class_parents w.context.globals.now) env
@@ -83,11 +83,11 @@ module _ {Store Ty : Type 0} (S : StoreOf Store Ty) where
       (finds : BodyContext → Standing → List Note) : Type 0 where
     pub pushed : notes_of new.found.now ≡ notes_of old.found.now ++ finds (body_context_in old) (standing_in old env)
     pub declared : new.declared.now ≡ old.declared.now
-    pub stands : Stands new env
+    pub stands : IsValidIn new env
 
   -- in this environment a step of the walk bound a name, with this result
   pub record BindsName (old : Walk Store Ty) (env : List (Option Ty)) (new : Walk Store Ty)
       (behind : List (Option Ty)) (binds : BodyContext → DeclaredTypes → Env → List Note → BindingResult) : Type 0 where
     pub is : bound_with S.tree new.declared.now behind (notes_of new.found.now)
         ≡ binds (body_context_in old) (env_of S.tree old.declared.now) (env_of S.tree env) (notes_of old.found.now)
-    pub stands : Stands new behind
+    pub stands : IsValidIn new behind

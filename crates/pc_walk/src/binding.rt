@@ -22,7 +22,7 @@ ghost use Rattle.pc_flow.specs.Environment.{current};
 ghost use Rattle.pc_rules.specs.Computed.ModuleParents.{class_parents};
 ghost use Rattle.pc_walk.specs.AnnotatedNames.{annotation_unless, declared_by};
 ghost use Rattle.pc_walk.specs.StatementsHeld.{HoldsContext};
-ghost use Rattle.pc_walk.specs.Walks.{Stands, HoldsOne, HoldsWant, WalkKept, BindsName, body_context_in};
+ghost use Rattle.pc_walk.specs.Walks.{IsValidIn, HoldsOne, HoldsWant, WalkKept, BindsName, body_context_in};
 
 use crate::flows::find_flow_in;
 use crate::walk::Walk;
@@ -94,7 +94,7 @@ pub fn bind_label<S: TypeStore>(
     place: Place,
     label: &Label<S::Ty>,
 ) -> Result<Env<S::Ty>, OutOfMemory>
-    requires stands { Stands S.TypeStore walk.old env }
+    requires stands { IsValidIn S.TypeStore walk.old env }
     requires want { HoldsWant S.TypeStore walk.old want }
     requires label { HoldsOne S.TypeStore walk.old label.now.ty }
     ensures bound { (m : LabelOf) → label_with S.tree label.now ≡ brief m
@@ -127,7 +127,7 @@ fn note_local<S: TypeStore>(
     place: Place,
     valued: bool,
 ) -> Result<(), OutOfMemory>
-    requires { Stands S.TypeStore walk.old env.now }
+    requires { IsValidIn S.TypeStore walk.old env.now }
     ensures noted { OnOk result (notes_of walk.new.found.now ≡ notes_of walk.old.found.now
         ++ local_note (bound_type (env_of S.tree walk.old.declared.now) local)
         (if valued then current (env_of S.tree env.now) local else None) place) }
@@ -152,7 +152,7 @@ pub fn note_binding<S: TypeStore>(
     place: Place,
     valued: bool,
 ) -> Result<(), OutOfMemory>
-    requires { Stands S.TypeStore walk.old env.now }
+    requires { IsValidIn S.TypeStore walk.old env.now }
     ensures noted { OnOk result (notes_of walk.new.found.now
         ≡ notes_after walk.old.context.globals.now.keeps valued (env_of S.tree walk.old.declared.now)
         (env_of S.tree env.now) meaning place (notes_of walk.old.found.now)) }

@@ -42,12 +42,12 @@ pub fn find_flow_in<S: TypeStore>(
     ensures goes_on { WalkKept S.TypeStore walk.old walk.new }
 {
     let parents = walk.context.globals.outline.parents;
-    let mut checker = TypingState {
+    let mut state = TypingState {
         store: walk.store,
         alloc: walk.alloc,
         found: walk.found,
     };
-    let code = find_flow(&mut checker, parents, place, label, into)?;
+    let code = find_flow(&mut state, parents, place, label, into)?;
     Ok(code)
 }
 
@@ -68,11 +68,11 @@ pub fn find_flows_in<S: TypeStore>(
     ensures goes_on { WalkKept S.TypeStore walk.old walk.new }
 {
     let parents = walk.context.globals.outline.parents;
-    let mut checker = TypingState {
+    let mut state = TypingState {
         store: walk.store,
         alloc: walk.alloc,
         found: walk.found,
     };
-    find_flows(&mut checker, parents, place, label, into)?;
+    find_flows(&mut state, parents, place, label, into)?;
     Ok(())
 }

@@ -3,11 +3,11 @@
 
 mod binding;
 mod context;
+mod envs;
 mod flows;
 mod laws;
 mod locals;
 mod loops;
-mod standing;
 mod touched;
 mod unreached;
 mod walk;

@@ -8,12 +8,13 @@ ghost use Rattle.pc_tree.specs.Stopping.{bound_by};
 ghost use Rattle.pc_flow.specs.Stored.{env_of};
 ghost use Rattle.pc_module_rules.specs.Computed.Statements.{head_at, bind_item, with_note};
 ghost use Rattle.pc_walk.specs.Touched.{numbers_of};
-ghost use Rattle.pc_walk.specs.Walks.{Stands, HoldsOne, HoldsEnv, IsEnv, IsQuiet, WalkKept, BindsName, body_context_in};
+ghost use Rattle.pc_walk.specs.Walks.{IsValidIn, HoldsOne, HoldsEnv, IsEnv, IsQuiet, WalkKept, BindsName};
+ghost use Rattle.pc_walk.specs.Walks.{body_context_in};
 ghost use Rattle.pc_flow.specs.Naming.{meanings};
 
 use crate::binding::{bind_label, known_type, note_binding};
+use crate::envs::head_in;
 use crate::locals::numbers_of_locals;
-use crate::standing::head_in;
 use crate::walk::Walk;
 use pc_flow::Env;
 use pc_rules::Label;
@@ -96,7 +97,7 @@ fn bind_target<S: TypeStore>(
     place: Place,
     item: S::Ty,
 ) -> Result<Env<S::Ty>, OutOfMemory>
-    requires stands { Stands S.TypeStore walk.old head }
+    requires stands { IsValidIn S.TypeStore walk.old head }
     requires item { HoldsOne S.TypeStore walk.old item }
     ensures bound { IfOk result (λ b. BindsName S.TypeStore walk.old head walk.new b
         (λ f t k. bind_item f t k meaning place (S.tree item))) }
@@ -126,7 +127,7 @@ pub fn bind_item<S: TypeStore>(
     place: Place,
     item: S::Ty,
 ) -> Result<Env<S::Ty>, OutOfMemory>
-    requires stands { Stands S.TypeStore walk.old head }
+    requires stands { IsValidIn S.TypeStore walk.old head }
     requires item { HoldsOne S.TypeStore walk.old item }
     ensures bound { IfOk result (λ b. BindsName S.TypeStore walk.old head walk.new b
         (λ f t k found. with_note f true (f.context.resolve (name_of target.now).text) target.now.place

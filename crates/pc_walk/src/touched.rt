@@ -47,14 +47,14 @@ fn add_tested_by(
         StmtKind::Continue => Ok(()),
         StmtKind::Return(_) => Ok(()),
         StmtKind::Assert(condition, _) => add_tested(names, condition, tested),
-        StmtKind::Annotated(_, _, _) => Ok(()),
+        StmtKind::Annotated { .. } => Ok(()),
         StmtKind::Assign(_, _) => Ok(()),
         StmtKind::Expr(_) => Ok(()),
         StmtKind::While(condition, body) => {
             add_tested(names, condition, tested)?;
             add_tested_in(names, body, tested)
         }
-        StmtKind::For(_, _, body) => add_tested_in(names, body, tested),
+        StmtKind::For { body, .. } => add_tested_in(names, body, tested),
         StmtKind::If(branches, otherwise) => {
             add_tested_in_branches(names, branches, tested)?;
             add_tested_in(names, otherwise, tested)

@@ -16,7 +16,7 @@ ghost use Rattle.pc_tree.specs.Tree.{stmt_of_kind};
 ghost use Rattle.pc_rules.specs.Computed.ModuleParents.{class_parents};
 ghost use Rattle.pc_walk.specs.Walks.{HoldsEnv, HoldsWay, IsWay, IsQuiet, WalkKept};
 
-use crate::standing::join_at_locals;
+use crate::envs::join_at_locals;
 use crate::touched::{add_touched, each_once};
 use crate::walk::Walk;
 use pc_flow::Env;
@@ -24,34 +24,34 @@ use pc_source::OutOfMemory;
 use pc_tree::StmtKind;
 use pc_types::TypeStore;
 
-/// Joins `env`, the environment at a `break`, into the exit environment `broken` of its loop, if there is a loop. Only
-/// the locals in `unsettled` are joined; elsewhere `broken` must already subsume `env`. Leaves in `unsettled` the
-/// locals where a second join could still change something. Language Reference 7.9 "The break statement".
+/// Joins `env`, the environment at a `break`, into `exit_env`, the exit environment of its loop, if there is a loop.
+/// Only the locals in `unsettled` are joined; elsewhere `exit_env` must already subsume `env`. Leaves in `unsettled`
+/// the locals where a second join could still change something. Language Reference 7.9 "The break statement".
 pub fn break_out<S: TypeStore>(
     walk: &mut Walk<'_, S>,
     unsettled: &mut Vec<usize>,
     env: &Env<S::Ty>,
-    broken: &mut Option<Env<S::Ty>>,
+    exit_env: &mut Option<Env<S::Ty>>,
 ) -> Result<(), OutOfMemory>
     requires declared { HoldsEnv S.TypeStore walk.old walk.old.declared.now }
     requires env { HoldsEnv S.TypeStore walk.old env.now }
-    requires broken { HoldsWay S.TypeStore walk.old broken.old }
+    requires exit_env { HoldsWay S.TypeStore walk.old exit_env.old }
     requires taken_in { WayTakesIn (class_parents walk.old.context.globals.now) unsettled.old.items
-        (option_map (env_of S.tree) broken.old) (Some (env_of S.tree env.now)) }
-    ensures joined { OnOk result (IsWay S.TypeStore walk.new broken.new
+        (option_map (env_of S.tree) exit_env.old) (Some (env_of S.tree env.now)) }
+    ensures joined { OnOk result (IsWay S.TypeStore walk.new exit_env.new
         (join_onto_way (class_parents walk.old.context.globals.now)
-        (env_of S.tree walk.old.declared.now) (option_map (env_of S.tree) broken.old) (env_of S.tree env.now))) }
+        (env_of S.tree walk.old.declared.now) (option_map (env_of S.tree) exit_env.old) (env_of S.tree env.now))) }
     ensures settled { OnOk result (WayTakesIn (class_parents walk.old.context.globals.now) unsettled.new.items
-        (option_map (env_of S.tree) broken.new) (Some (env_of S.tree env.now))) }
+        (option_map (env_of S.tree) exit_env.new) (Some (env_of S.tree env.now))) }
     ensures quiet { OnOk result (IsQuiet S.TypeStore walk.old walk.new) }
     ensures goes_on { WalkKept S.TypeStore walk.old walk.new }
 {
-    match broken.take() {
+    match exit_env.take() {
         None => Ok(()),
         Some(way) => {
             each_once(unsettled);
             let joined = join_at_locals(walk, unsettled, way, env)?;
-            *broken = Some(joined.env);
+            *exit_env = Some(joined.env);
             *unsettled = joined.unsettled;
             Ok(())
         }
@@ -61,13 +61,13 @@ pub fn break_out<S: TypeStore>(
 /// Appends touched locals to `unsettled` if there is an exit environment of a loop: a `break` must join them from now
 /// on. Own rule of the profile.
 pub fn note_locals<Ty: Drop>(
-    broken: &Option<Env<Ty>>,
+    exit_env: &Option<Env<Ty>>,
     touched: &[usize],
     unsettled: &mut Vec<usize>,
 ) -> Result<(), OutOfMemory>
-    ensures { OnOk result (AreNoted broken.now unsettled.old.items touched.now unsettled.new.items) }
+    ensures { OnOk result (AreNoted exit_env.now unsettled.old.items touched.now unsettled.new.items) }
 {
-    match broken {
+    match exit_env {
         None => Ok(()),
         Some(_) => {
             unsettled.extend_from_slice(touched)?;
@@ -80,14 +80,14 @@ pub fn note_locals<Ty: Drop>(
 /// join them from now on. Own rule of the profile.
 pub fn note_touched<S: TypeStore>(
     walk: &Walk<'_, S>,
-    broken: &Option<Env<S::Ty>>,
+    exit_env: &Option<Env<S::Ty>>,
     kind: &StmtKind,
     unsettled: &mut Vec<usize>,
 ) -> Result<(), OutOfMemory>
-    ensures { (p : PlaceOf) → OnOk result (AreNoted broken.now unsettled.old.items
+    ensures { (p : PlaceOf) → OnOk result (AreNoted exit_env.now unsettled.old.items
         (touched_by_stmt (meanings walk.now.context.names.now) (stmt_of_kind p kind.now)) unsettled.new.items) }
 {
-    match broken {
+    match exit_env {
         None => Ok(()),
         Some(_) => add_touched(walk.alloc, walk.context.names, kind, unsettled),
     }

@@ -1,14 +1,13 @@
 //! Checks a module: `pycheck [--json] [--types | --details | --format N] FILE`.
 #![tactic(auto)]
 
-use pc_checked_file::{Asked, CheckFault, FindingCounts, check_file, explain_file, status_of};
+use pc_checked_file::{AnswerKind, Asked, CheckFault, FindingCounts, check_file, status_of};
 use pc_commands::{RemembersError, given_words, reason_of, tell};
 pub use pc_commands::{CheckOptions as Options, OptionFault, check_options as options};
 use pc_source::Counted;
-use std::alloc::Global;
 use std::fs::File;
 use std::io;
-use std::io::{Read, Write};
+use std::io::Write;
 use std::process::ExitCode;
 use std::rt::{Env, Files};
 
@@ -36,25 +35,6 @@ fn explain<R: Eprint + AllocGlobal>(
     let _ = eprintln!(rt; "{fault}");
 }
 
-/// Writes what the words ask for: the report, with details or without, or the listing of types.
-fn answered<R: Read + Drop, W: Write + Drop, E: Write + Drop>(
-    alloc: Global,
-    options: &Options,
-    input: &mut Counted<R>,
-    output: &mut Counted<W>,
-    errors: &mut Counted<E>,
-) -> Result<FindingCounts, CheckFault> {
-    if options.details {
-        return explain_file(alloc, options.json, input, output, errors);
-    }
-    let asked = Asked {
-        types: options.types,
-        json: options.json,
-        format: options.format,
-    };
-    check_file(alloc, asked, input, output, errors)
-}
-
 /// Checks the content of a file and writes the report, with details if they are asked for, or the listing of types, to
 /// standard output.
 fn checked<R: Print + Eprint + Files + AllocGlobal, E: Write + Drop>(
@@ -66,7 +46,11 @@ fn checked<R: Print + Eprint + Files + AllocGlobal, E: Write + Drop>(
     let mut input = Counted::new(RemembersError::new(file));
     let mut output = Counted::new(RemembersError::new(io::writer(rt)));
     let mut errors = Counted::new(errors);
-    let outcome = answered(rt.alloc(), options, &mut input, &mut output, &mut errors);
+    let asked = Asked {
+        answer: AnswerKind::asked_by(options.details, options.types, options.format),
+        json: options.json,
+    };
+    let outcome = check_file(rt.alloc(), asked, &mut input, &mut output, &mut errors);
     match &outcome {
         Err(CheckFault::Read) => explain(
             rt,

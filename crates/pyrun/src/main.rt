@@ -1,4 +1,4 @@
-//! Runs a module: `pyrun --fuel N FILE`.
+//! Runs a module: `pyrun --fuel N [--choices WORD] FILE`.
 #![tactic(auto)]
 
 use pc_commands::{RemembersError, given_words, reason_of, tell};
@@ -52,6 +52,7 @@ fn traced<R: Print + Eprint + Files + AllocGlobal, E: Write + Drop>(
     let outcome = run_file(
         rt.alloc(),
         options.fuel,
+        options.choices.as_bytes(),
         &mut input,
         &mut output,
         &mut errors,

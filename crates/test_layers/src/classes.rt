@@ -211,6 +211,28 @@ fn add_fields(
     Ok(())
 }
 
+/// Appends each field of a class that is not the one found at its place, and their number if not as many have a place.
+fn add_misplaced(
+    alloc: Global,
+    table: &ClassTable<BoxType>,
+    class: usize,
+    out: &mut String,
+) -> Result<(), Fault> {
+    let placed = Listing::Fields(table, class);
+    let fields = table.fields(alloc, class)?;
+    if fields.len() != placed.len() {
+        writeln!(out, "fields {}", fields.len())?;
+    }
+    for place in 0..fields.len() {
+        let field = fields[place];
+        match placed.at(place) {
+            Some(other) if other.name.as_str() == field.name.as_str() => {}
+            _ => writeln!(out, "at {place} {}", field.name)?,
+        }
+    }
+    Ok(())
+}
+
 /// Appends the fields of a class, and its method of each name.
 fn add_members(
     alloc: Global,
@@ -224,13 +246,14 @@ fn add_members(
     requires { HasEntries IsGiven table.now }
 {
     add_fields(alloc, tree, table, class, out)?;
+    add_misplaced(alloc, table, class, out)?;
     for method in methods {
         add_method_named(alloc, tree, classes, table, class, method, out)?;
     }
     Ok(())
 }
 
-/// Appends each class with its members.
+/// Appends each class with its members, and the number of classes if the table has another one.
 fn add_table(
     alloc: Global,
     tree: &Module,
@@ -244,6 +267,9 @@ fn add_table(
     for (class, name) in classes.iter().enumerate() {
         add_class(&classes, table, class, name, out)?;
         add_members(alloc, tree, table, class, &classes, &methods, out)?;
+    }
+    if classes.len() != table.count() {
+        writeln!(out, "classes {}", table.count())?;
     }
     Ok(())
 }

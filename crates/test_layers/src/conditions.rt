@@ -24,7 +24,12 @@ fn condition_of(module: &Module) -> Option<&Expr> {
 /// Returns whether an expression is an `isinstance` test.
 fn is_test(e: &Expr) -> bool {
     match e {
-        Expr::Call(_, callee, arguments, by_name) => is_instance_test(callee, arguments, by_name),
+        Expr::Call {
+            callee,
+            arguments,
+            keywords: by_name,
+            ..
+        } => is_instance_test(callee, arguments, by_name),
         _ => false,
     }
 }
@@ -39,7 +44,8 @@ fn test_text(alloc: Global, names: &OwnerNames, condition: &Expr) -> Result<Stri
     Ok(format!(in alloc; "{tested:?}; {named:?} {test:?} {is_test}")?)
 }
 
-/// Returns the same for the condition of a module's first function.
+/// Returns the text of the tests of a condition, as `test_text` does, for that of a module's first function; words that
+/// say so if it has no condition.
 pub fn condition_text(alloc: Global, module: &Module) -> Result<String, OutOfMemory> {
     let Some(condition) = condition_of(module) else {
         return Ok(String::from_str(alloc, "no condition")?);

@@ -54,7 +54,8 @@ fn met_text(
     met_with(row, alloc, words, &declarations, one, other)
 }
 
-/// Returns the same, with these declarations.
+/// Returns the text of the join of two environments, with these declarations: by `join_env` if the words are `join`,
+/// else by `join_env_onto`, with the unsettled locals.
 #[tactic(auto, using(crate::proofs::HeldLocals::all_taken_in))]
 fn met_with(
     row: &Environment,
@@ -114,7 +115,7 @@ fn narrowed_simply(
     ensures { IfOk result (λ e. HasEach IsGiven e) }
 {
     match condition {
-        Expr::Not(_, _) | Expr::And(_, _, _) | Expr::Or(_, _, _) => Ok(env),
+        Expr::Not(_, _) | Expr::And { .. } | Expr::Or { .. } => Ok(env),
         _ => {
             let ways = narrow_simple(&mut BoxStore::new(), alloc, declarations, condition, env)?;
             if holds {

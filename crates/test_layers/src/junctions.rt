@@ -17,7 +17,7 @@ fn is_simple(e: &Expr) -> bool
     ensures { result ≡ true → IsSimple (expr_of e.now) }
 {
     match e {
-        Expr::Not(_, _) | Expr::And(_, _, _) | Expr::Or(_, _, _) => false,
+        Expr::Not(_, _) | Expr::And { .. } | Expr::Or { .. } => false,
         _ => true,
     }
 }
@@ -47,14 +47,28 @@ fn met(
         Connective::And => {
             let asked = first.where_true;
             let second = narrow_simple(&mut store, alloc, declarations, right, asked)?;
-            let settled = first.where_false;
-            narrow_junction(&mut store, alloc, declarations, junction, settled, second)
+            let short_circuit_env = first.where_false;
+            narrow_junction(
+                &mut store,
+                alloc,
+                declarations,
+                junction,
+                short_circuit_env,
+                second,
+            )
         }
         Connective::Or => {
             let asked = first.where_false;
             let second = narrow_simple(&mut store, alloc, declarations, right, asked)?;
-            let settled = first.where_true;
-            narrow_junction(&mut store, alloc, declarations, junction, settled, second)
+            let short_circuit_env = first.where_true;
+            narrow_junction(
+                &mut store,
+                alloc,
+                declarations,
+                junction,
+                short_circuit_env,
+                second,
+            )
         }
     }
 }
@@ -76,8 +90,8 @@ pub(crate) fn narrowed_by_parts(
     ensures { IfOk result (λ e. HasEach IsGiven e) }
 {
     let (connective, left, right) = match condition {
-        Expr::And(_, left, right) => (Connective::And, left, right),
-        Expr::Or(_, left, right) => (Connective::Or, left, right),
+        Expr::And { left, right, .. } => (Connective::And, left, right),
+        Expr::Or { left, right, .. } => (Connective::Or, left, right),
         _ => return Ok(env),
     };
     if !is_simple(left) || !is_simple(right) {

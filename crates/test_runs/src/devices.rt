@@ -15,12 +15,20 @@ fn trace_summary(alloc: Global, written: &[u8]) -> Result<String, AllocError> {
     format!(in alloc; "{count} {}", end.trim_end())
 }
 
-/// Returns the status of the run of a module with that fuel, and a summary of its trace or the line of its fault.
-fn outcome_text(alloc: Global, text: &str, fuel: u64) -> Result<String, AllocError> {
+/// Returns the status of the run of a module with that fuel and the bytes of that word as choices, and a summary of its
+/// trace or the line of its fault.
+fn outcome_text(alloc: Global, text: &str, fuel: u64, choices: &str) -> Result<String, AllocError> {
     let mut input = Counted::new(text.as_bytes());
     let mut output = Counted::new(Vec::new(alloc));
     let mut errors = Counted::new(Vec::new(alloc));
-    let outcome = run_file(alloc, fuel, &mut input, &mut output, &mut errors);
+    let outcome = run_file(
+        alloc,
+        fuel,
+        choices.as_bytes(),
+        &mut input,
+        &mut output,
+        &mut errors,
+    );
     let status = status_of(&outcome);
     if outcome.is_ok() {
         let summary = trace_summary(alloc, output.inner().as_slice())?;
@@ -31,11 +39,13 @@ fn outcome_text(alloc: Global, text: &str, fuel: u64) -> Result<String, AllocErr
 }
 
 /// Returns the exit status of the run of a module, its number of events and its end, or its fault. The first line of
-/// the row is the fuel; a row without such a line is a run that was out of memory.
+/// the row is the fuel, and after a space the word for the choices, if there is one; a row without such a line is a run
+/// that was out of memory.
 pub fn status_text(alloc: Global, row: &str) -> Result<String, AllocError> {
-    let (fuel, text) = row.split_once('\n').unwrap_or(("", ""));
+    let (words, text) = row.split_once('\n').unwrap_or(("", ""));
+    let (fuel, choices) = words.split_once(' ').unwrap_or((words, ""));
     match fuel.parse() {
-        Ok(fuel) => outcome_text(alloc, text, fuel),
+        Ok(fuel) => outcome_text(alloc, text, fuel, choices),
         Err(_) => {
             let fault = RunFault::OutOfMemory;
             format!(in alloc; "{}: {fault}", status_of(&Err(fault)))

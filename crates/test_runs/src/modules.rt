@@ -1,6 +1,7 @@
-//! Modules built from the lines of a case.
+//! Modules built from the lines of a case, and their traces.
 
 use crate::cases::Case;
+use pc_commands::traced;
 use pc_front::read_module;
 use pc_run::{Trace, run, trace_text};
 use pc_source::{Fault, OutOfMemory};
@@ -37,15 +38,28 @@ fn trace_in(alloc: Global, program: &Module, case: &Case) -> Result<Trace, OutOf
 }
 
 /// Returns the trace of the module that a text spells, run with the fuel and the choices of a case.
-fn traced(alloc: Global, text: &str, case: &Case) -> Result<Trace, Fault> {
+fn run_of(alloc: Global, text: &str, case: &Case) -> Result<Trace, Fault> {
     let program = read_module(alloc, text.as_bytes())?;
     Ok(trace_in(alloc, &program, case)?)
 }
 
-/// Returns the lines of the trace of a module, or its refusal.
-pub fn trace_of(alloc: Global, text: &str, case: &Case) -> Result<String, AllocError> {
-    match traced(alloc, text, case) {
+/// Returns the lines of a trace, or the refusal that takes its place.
+fn lines_of(alloc: Global, trace: Result<Trace, Fault>) -> Result<String, AllocError> {
+    match trace {
         Ok(trace) => trace_text(alloc, &trace).map_err(|_| AllocError),
         Err(fault) => format!(in alloc; "{fault}"),
     }
+}
+
+/// Returns the lines of the trace of a module, or its refusal.
+pub fn trace_of(alloc: Global, text: &str, case: &Case) -> Result<String, AllocError> {
+    lines_of(alloc, run_of(alloc, text, case))
+}
+
+/// Returns the lines of the trace of the module that bytes spell, or its refusal, by the call that the program makes.
+pub fn trace_of_bytes(alloc: Global, bytes: &[u8], case: &Case) -> Result<String, AllocError> {
+    lines_of(
+        alloc,
+        traced(alloc, bytes, case.fuel, case.choices.as_slice()),
+    )
 }

@@ -53,11 +53,23 @@ pub fn check_text(alloc: Global, row: &str, want: &str) -> Result<String, AllocE
     }
 }
 
-/// Returns the request of words for `pyrun`: the fuel and the file, or the message of their fault.
+/// Returns the request of words for `pyrun`: the fuel, the word for the choices in brackets if it is not empty, and the
+/// file, or the message of their fault.
 pub fn run_text(alloc: Global, row: &str, want: &str) -> Result<String, AllocError> {
     let words: Vec<&str> = row.split('|').skip(1).collect(alloc)?;
     match run_options(alloc, words.as_slice()) {
-        Ok(RunOptions { fuel, file }) => format!(in alloc; "{fuel} <{file}>"),
+        Ok(
+            RunOptions {
+                fuel,
+                choices,
+                file,
+            },
+        ) => {
+            if choices.is_empty() {
+                return format!(in alloc; "{fuel} <{file}>");
+            }
+            format!(in alloc; "{fuel} [{choices}] <{file}>")
+        }
         Err(fault) => told(alloc, &fault, want),
     }
 }

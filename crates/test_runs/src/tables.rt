@@ -3,7 +3,7 @@
 use crate::actions::count_actions;
 use crate::cases::{Case, cases};
 use crate::devices::{reason_text, status_text};
-use crate::modules::{module_of_lines, module_of_statements, trace_of};
+use crate::modules::{module_of_lines, module_of_statements, trace_of, trace_of_bytes};
 use crate::options::{check_text, run_text};
 use std::alloc::{AllocError, Global};
 use test_rows::{TableFault, TableRow, Tally, rows};
@@ -17,7 +17,8 @@ const CASES: &str = "----\n";
 /// A part of a table: the form of its cases, and the form of their answers.
 #[derive(Clone, Copy)]
 struct Part<'t> {
-    /// The form of a case: `modules` without their first and last line, `statements` of `main`, or whole `texts`.
+    /// The form of a case: `modules` without their first and last line, `statements` of `main`, whole `texts`, or the
+    /// `bytes` of whole texts.
     of: &'t str,
     /// The lines before `main`, if the cases have only its statements.
     before: &'t str,
@@ -46,7 +47,7 @@ fn part_of(text: &str) -> Result<Part<'_>, TableFault> {
 fn module_of(alloc: Global, part: &Part<'_>, case: &Case) -> Result<String, AllocError> {
     match part.of {
         "statements" => module_of_statements(alloc, part.before, case.text.as_str()),
-        "texts" => String::from_str(alloc, case.text.as_str()),
+        "texts" | "bytes" => String::from_str(alloc, case.text.as_str()),
         _ => module_of_lines(alloc, case.text.as_str()),
     }
 }
@@ -60,10 +61,18 @@ fn last_line(text: &str) -> &str {
     }
 }
 
+/// Returns the lines of the trace of the module of a case.
+fn trace_in(alloc: Global, part: &Part<'_>, text: &str, case: &Case) -> Result<String, AllocError> {
+    match part.of {
+        "bytes" => trace_of_bytes(alloc, text.as_bytes(), case),
+        _ => trace_of(alloc, text, case),
+    }
+}
+
 /// Runs the module of a case, and counts it.
 fn count(alloc: Global, part: &Part<'_>, case: &Case, tally: &mut Tally) -> Result<(), AllocError> {
     let text = module_of(alloc, part, case)?;
-    let trace = trace_of(alloc, text.as_str(), case)?;
+    let trace = trace_in(alloc, part, text.as_str(), case)?;
     if part.is_end {
         let want = format!(in alloc; "end {}", case.want.as_str().trim_end())?;
         tally.count(text.as_str(), want.as_str(), last_line(trace.as_str()))

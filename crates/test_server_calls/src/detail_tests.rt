@@ -105,6 +105,18 @@ Annotate the source of the value, or test it with `isinstance`; if the value is 
 A value fits where it goes only if `Any` happens to stand for the right type.\\n\\n\
 Annotate the source of the value, or test it with `isinstance`; if the value is in error itself, mend that.\"}}}";
 
+const OPEN_MODULE: &str = "\
+{\"method\":\"textDocument/didOpen\",\"params\":{\"textDocument\":{\"uri\":\"a\",\"version\":3,\
+\"text\":\"from __future__ import annotations\\nX = 1\\ndef main():\\n    print(X)\\nmain()\\n\"}}}";
+
+const ASK_NAME: &str = "\
+{\"id\":2,\"method\":\"textDocument/hover\",\"params\":{\"textDocument\":{\"uri\":\"a\"},\
+\"position\":{\"line\":3,\"character\":10}}}";
+
+const DECLARATION: &str = "\
+{\"id\":2,\"jsonrpc\":\"2.0\",\"result\":{\"contents\":{\"kind\":\"markdown\",\"value\":\
+\"```python\\nX = 1\\n```\"}}}";
+
 /// The publication of the findings, up to the range of the first one.
 const BEFORE: &str = "\
 {\"jsonrpc\":\"2.0\",\"method\":\"textDocument/publishDiagnostics\",\"params\":{\"diagnostics\":[\
@@ -169,5 +181,16 @@ fn a_hover_explains_by_the_sentence(rt: HostRuntime) -> Result<(), Fail> {
     step(&mut session, &Telling, alloc, OPEN.as_bytes())?;
     let given = step(&mut session, &Telling, alloc, ASK_HOVER.as_bytes())?;
     assert!(rt; given == frame_of(alloc, &[HOVER])?);
+    Ok(())
+}
+
+#[test]
+fn a_hover_has_the_declaration(rt: HostRuntime) -> Result<(), Fail> {
+    let alloc = rt.alloc();
+    let mut session = Session::new(alloc);
+    step(&mut session, &Telling, alloc, BEGIN.as_bytes())?;
+    step(&mut session, &Telling, alloc, OPEN_MODULE.as_bytes())?;
+    let given = step(&mut session, &Telling, alloc, ASK_NAME.as_bytes())?;
+    assert!(rt; given == frame_of(alloc, &[DECLARATION])?);
     Ok(())
 }

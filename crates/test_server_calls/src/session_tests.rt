@@ -39,8 +39,33 @@ impl Checker for Refusing {
 
 const BEGIN: &str = "{\"id\":1,\"method\":\"initialize\",\"params\":{}}";
 
+const BEGUN: &str = "\
+{\"id\":1,\"jsonrpc\":\"2.0\",\"result\":{\"capabilities\":{\"definitionProvider\":true,\
+\"diagnosticProvider\":{\"interFileDependencies\":false,\"workspaceDiagnostics\":false},\
+\"documentSymbolProvider\":true,\"hoverProvider\":true,\"positionEncoding\":\"utf-16\",\
+\"textDocumentSync\":{\"change\":1,\"openClose\":true}},\
+\"serverInfo\":{\"name\":\"pycheck\",\"version\":\"1.0.0\"}}}";
+
 const OPEN: &str =
     "{\"method\":\"textDocument/didOpen\",\"params\":{\"textDocument\":{\"uri\":\"a\",\"version\":3,\"text\":\"xy\"}}}";
+
+/// The publication of the refusal at the second character.
+const REFUSED: &str = "\
+{\"jsonrpc\":\"2.0\",\"method\":\"textDocument/publishDiagnostics\",\"params\":{\"diagnostics\":[\
+{\"code\":\"L7\",\"message\":\"There is a tab in the indentation of a line.\",\
+\"range\":{\"end\":{\"character\":2,\"line\":0},\"start\":{\"character\":1,\"line\":0}},\
+\"severity\":1,\"source\":\"pycheck\"}],\"uri\":\"a\",\"version\":3}}";
+
+/// The publication of a document whose text is not known.
+const UNKNOWN: &str = "\
+{\"jsonrpc\":\"2.0\",\"method\":\"textDocument/publishDiagnostics\",\"params\":{\"diagnostics\":[\
+{\"message\":\"not checked: the text of this document is not known until it changes\",\
+\"range\":{\"end\":{\"character\":1,\"line\":0},\"start\":{\"character\":0,\"line\":0}},\
+\"severity\":2,\"source\":\"pycheck\"}],\"uri\":\"a\",\"version\":3}}";
+
+const LOGGED: &str = "\
+{\"jsonrpc\":\"2.0\",\"method\":\"window/logMessage\",\"params\":{\"message\":\
+\"a message was not read: the texts of the open documents are not known until they change\",\"type\":2}}";
 
 const OPEN_MODULE: &str = "\
 {\"method\":\"textDocument/didOpen\",\"params\":{\"textDocument\":{\"uri\":\"a\",\"version\":3,\
@@ -85,9 +110,9 @@ fn a_new_text_is_published_and_kept(rt: HostRuntime) -> Result<(), Fail> {
     let alloc = rt.alloc();
     let mut session = Session::new(alloc);
     let begun = step(&mut session, &Refusing, alloc, BEGIN.as_bytes())?;
-    assert!(rt; begun.ends_with(b"\"serverInfo\":{\"name\":\"pycheck\",\"version\":\"1.0.0\"}}}"));
+    assert!(rt; begun == framed(alloc, BEGUN.as_bytes())?);
     let told = step(&mut session, &Refusing, alloc, OPEN.as_bytes())?;
-    assert!(rt; told.ends_with(b"\"source\":\"pycheck\"}],\"uri\":\"a\",\"version\":3}}"));
+    assert!(rt; told == framed(alloc, REFUSED.as_bytes())?);
     assert_eq!(rt; session.documents.len(), 1);
     assert!(rt; session.stage == Stage::Running);
     Ok(())
@@ -151,7 +176,7 @@ fn a_long_message_is_refused(rt: HostRuntime) -> Result<(), Fail> {
     step(&mut session, &Refusing, alloc, BEGIN.as_bytes())?;
     step(&mut session, &Refusing, alloc, OPEN.as_bytes())?;
     let told = refuse_long(&mut session, alloc)?;
-    assert!(rt; told.starts_with(&framed(alloc, TOO_LONG.as_bytes())?));
+    assert!(rt; told == frames(alloc, &[TOO_LONG, UNKNOWN, LOGGED])?);
     assert!(rt;
         session
             .documents
@@ -173,7 +198,8 @@ fn a_long_message_is_read_away(rt: HostRuntime) -> Result<(), Fail> {
     let mut output = Counted::new(Vec::new(alloc));
     let end = serve(alloc, &Refusing, &mut input, &mut output);
     assert!(rt; matches!(end, ServingEnd::Exited(1)));
-    assert!(rt; output.inner().ends_with(TOO_LONG.as_bytes()));
+    let wanted = frames(alloc, &[BEGUN, TOO_LONG])?;
+    assert!(rt; output.inner().as_slice() == wanted.as_slice());
     Ok(())
 }
 
@@ -185,7 +211,8 @@ fn messages_are_answered_up_to_exit(rt: HostRuntime) -> Result<(), Fail> {
     let mut output = Counted::new(Vec::new(alloc));
     let end = serve(alloc, &Refusing, &mut input, &mut output);
     assert!(rt; matches!(end, ServingEnd::Exited(1)));
-    assert!(rt; output.inner().ends_with(b"\"uri\":\"a\",\"version\":3}}"));
+    let wanted = frames(alloc, &[BEGUN, REFUSED])?;
+    assert!(rt; output.inner().as_slice() == wanted.as_slice());
     Ok(())
 }
 

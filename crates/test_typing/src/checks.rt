@@ -1,24 +1,21 @@
-//! The flows, findings and types of a module's check, by `pc_check` and `pc_signatures`, over any store of types.
-ghost use Rattle.std.specs.Prelude.{◌≡◌, All, IfOk};
+//! The flows, findings and types of a module's check, by `pc_check`, over any store of types.
+ghost use Rattle.std.specs.Prelude.{◌≡◌};
 ghost use Rattle.pc_tree.specs.Tree.{module_of};
 ghost use Rattle.pc_scope.specs.ModuleScopes.{AreScopes};
 ghost use Rattle.pc_class.specs.Facts.{classes_of};
 ghost use Rattle.pc_class.specs.Tables.{HasEntries, classes_with};
-ghost use Rattle.pc_rules.specs.Computed.Standing.{HasIfAny, HasSignature};
 
-use pc_annotations::{ClassNames, ModuleOutline, parents_of, type_text};
-use pc_check::{check_module, explain_flow};
+use crate::notes::listed;
+use crate::signatures::signed_text;
+use pc_annotations::{ClassNames, parents_of, type_text};
+use pc_check::{check_module, explain_flow, flow_texts};
 use pc_class::{ClassTable, class_table};
-use pc_expr::check_expr;
-use pc_flow::{DeclaredTypes, Env, OwnerNames};
 use pc_front::read_module;
 use pc_intern::InternStore;
 use pc_notes::Notes;
-use pc_rules::{ExprContext, ModuleContext, Signature, TypingState};
-use pc_scope::{Owner, Scopes, scopes};
-use pc_signatures::read_signatures;
+use pc_scope::{Scopes, scopes};
 use pc_source::{OutOfMemory, Place};
-use pc_tree::{Expr, ItemKind, Module};
+use pc_tree::Module;
 use pc_types::{BoxStore, TypeStore};
 use std::alloc::{AllocError, Global};
 
@@ -62,17 +59,21 @@ fn flow_text<S: TypeStore>(
     }
 }
 
-/// Returns findings in order: the code of each, whether it is an error, and the bytes at which it starts and ends.
-fn listed(alloc: Global, notes: &Notes) -> Result<String, OutOfMemory> {
+/// Returns the texts of the dynamic flows of a module: the bytes of each place, and the flow there.
+fn flows_text<S: TypeStore>(
+    store: &mut S,
+    alloc: Global,
+    tree: &Module,
+    scopes: &Scopes,
+    classes: &ClassTable<S::Ty>,
+) -> Result<String, OutOfMemory>
+    requires scopes { AreScopes (module_of tree.now) scopes.now }
+    requires classes { classes_with S.tree classes.now ≡ classes_of (module_of tree.now) }
+    requires entries { HasEntries (S.has store.old) classes.now }
+{
     let mut text = String::new(alloc);
-    for finding in &notes.findings(alloc)? {
-        let (code, start, end) = (finding.code.text(), finding.place.start, finding.place.end);
-        let kind = if finding.code.is_error() {
-            "error"
-        } else {
-            "dynamic"
-        };
-        write!(text, "{code} {kind} {start} {end}; ")?;
+    for (place, from, into) in &flow_texts(store, alloc, tree, scopes, classes)? {
+        write!(text, "{} {} {from} -> {into}; ", place.start, place.end)?;
     }
     Ok(text)
 }
@@ -117,193 +118,9 @@ fn types_text<S: TypeStore>(
     Ok(text)
 }
 
-/// Appends the text of a type after those of others.
-fn add_text(out: &mut String, text: &str) -> Result<(), OutOfMemory> {
-    if !out.is_empty() {
-        out.push_str(", ")?;
-    }
-    Ok(out.push_str(text)?)
-}
-
-/// Returns the types of constants.
-fn constants_text<S: TypeStore>(
-    store: &S,
-    alloc: Global,
-    tree: &Module,
-    constants: &[S::Ty],
-) -> Result<String, OutOfMemory>
-    requires { All (S.has store.now) constants.now }
-{
-    let mut out = String::new(alloc);
-    for ty in constants {
-        add_text(&mut out, type_text(store, alloc, tree, ty)?.as_str())?;
-    }
-    Ok(out)
-}
-
-/// Returns the return types of functions.
-fn returns_text<S: TypeStore>(
-    store: &S,
-    alloc: Global,
-    tree: &Module,
-    functions: &[Signature<S::Ty>],
-) -> Result<String, OutOfMemory>
-    requires { All (HasSignature (S.has store.now)) functions.now }
-{
-    let mut out = String::new(alloc);
-    for signature in functions {
-        add_text(
-            &mut out,
-            type_text(store, alloc, tree, &signature.ret)?.as_str(),
-        )?;
-    }
-    Ok(out)
-}
-
-/// Returns the types of constants, the return types of functions, and the findings in both, as a table writes them.
-fn signatures_text<S: TypeStore>(
-    checker: &TypingState<'_, S>,
-    tree: &Module,
-    constants: &[S::Ty],
-    functions: &[Signature<S::Ty>],
-) -> Result<String, OutOfMemory>
-    requires constants { All (S.has checker.now.store.now) constants.now }
-    requires functions { All (HasSignature (S.has checker.now.store.now)) functions.now }
-{
-    let constants = constants_text(checker.store, checker.alloc, tree, constants)?;
-    let returns = returns_text(checker.store, checker.alloc, tree, functions)?;
-    told(
-        checker.alloc,
-        constants.as_str(),
-        returns.as_str(),
-        checker.found,
-    )
-}
-
-/// Returns two texts, followed by the findings.
-fn told(alloc: Global, one: &str, other: &str, notes: &Notes) -> Result<String, OutOfMemory> {
-    let found = listed(alloc, notes)?;
-    Ok(format!(in alloc; "{one}; {other}; {found}")?)
-}
-
-/// Returns the initializer of the last constant of a module.
-fn last_initializer(tree: &Module) -> Option<&Expr> {
-    let mut last = None;
-    for item in &tree.items {
-        if let ItemKind::Constant(constant) = &item.kind {
-            last = Some(&constant.value);
-        }
-    }
-    last
-}
-
-/// Returns a type and the findings, as a table writes them.
-fn typed(alloc: Global, ty: &str, notes: &Notes) -> Result<String, OutOfMemory> {
-    let found = listed(alloc, notes)?;
-    Ok(format!(in alloc; "{ty}; {found}")?)
-}
-
-/// Returns the type of the last constant, if it is expected of its initializer.
-fn expected<S: TypeStore>(
-    store: &S,
-    alloc: Global,
-    constants: &[S::Ty],
-    is_expected: bool,
-) -> Result<Option<S::Ty>, OutOfMemory>
-    requires { All (S.has store.now) constants.now }
-    ensures { IfOk result (λ want. HasIfAny (S.has store.now) want) }
-{
-    match constants.last() {
-        Some(ty) if is_expected => Ok(Some(store.copy(alloc, ty)?)),
-        _ => Ok(None),
-    }
-}
-
-/// Returns the type of the initializer of a module's last constant, perhaps with an expected type, and the findings in
-/// it. In a body functions may be called.
-fn label_text<S: TypeStore>(
-    store: &mut S,
-    alloc: Global,
-    globals: &ModuleContext<'_, S::Ty>,
-    in_body: bool,
-    want: &Option<S::Ty>,
-) -> Result<String, OutOfMemory>
-    requires want { HasIfAny (S.has store.old) want.now }
-    requires classes { HasEntries (S.has store.old) globals.now.classes.now }
-    requires functions { All (HasSignature (S.has store.old)) globals.now.functions.now }
-    requires constants { All (S.has store.old) globals.now.constants.now }
-{
-    let Some(value) = last_initializer(globals.outline.tree) else {
-        return Ok(String::from_str(alloc, "no constant")?);
-    };
-    let names = OwnerNames {
-        scopes: globals.outline.scopes,
-        owner: Owner::Module,
-    };
-    let declared = DeclaredTypes::new(alloc, 0)?;
-    let env = Env::new(alloc, 0)?;
-    let setting = ExprContext {
-        globals,
-        in_body,
-        names: &names,
-        declared: &declared,
-    };
-    let mut notes = Notes::new(alloc);
-    let mut checker = TypingState {
-        store,
-        alloc,
-        found: &mut notes,
-    };
-    let label = check_expr(&mut checker, &setting, &env, want, value)?;
-    let ty = type_text(checker.store, alloc, globals.outline.tree, &label.ty)?;
-    typed(alloc, ty.as_str(), &notes)
-}
-
-/// Returns the types of a module's constants and functions by its signatures, with the findings in them; or the type of
-/// its last initializer, in which all its constants and classes may be named.
-fn signed_text<S: TypeStore>(
-    store: &mut S,
-    alloc: Global,
-    tree: &Module,
-    scopes: &Scopes,
-    classes: &ClassTable<S::Ty>,
-    part: &str,
-) -> Result<String, OutOfMemory>
-    requires scopes { AreScopes (module_of tree.now) scopes.now }
-    requires classes { classes_with S.tree classes.now ≡ classes_of (module_of tree.now) }
-    requires entries { HasEntries (S.has store.old) classes.now }
-{
-    let mut notes = Notes::new(alloc);
-    let mut checker = TypingState {
-        store,
-        alloc,
-        found: &mut notes,
-    };
-    let outline = ModuleOutline {
-        tree,
-        scopes,
-        parents: classes.parents(),
-    };
-    let signed = read_signatures(&mut checker, &outline, classes, false)?;
-    let (constants, functions) = (signed.constants(), signed.functions());
-    if part == "SIGNATURES" {
-        return signatures_text(&checker, tree, constants, functions);
-    }
-    let globals = ModuleContext {
-        outline: &outline,
-        classes,
-        functions,
-        constants,
-        known: classes.count(),
-        keeps: false,
-    };
-    let want = expected(checker.store, alloc, constants, part == "EXPECTED")?;
-    label_text(checker.store, alloc, &globals, part != "INITIAL", &want)
-}
-
 /// Returns the answer of a store in a part of this name, for a module with its scopes and its class table: the flow at
-/// a place, the findings, the types, the type of its last initializer (as in a body, as in a body with its type
-/// expected, or as an initializer), or its signatures.
+/// a place, the texts of all flows, the findings, the types, the type of its last initializer (as in a body, as in a
+/// body with its type expected, or as an initializer), or its signatures.
 fn answer_with<S: TypeStore>(
     store: &mut S,
     alloc: Global,
@@ -319,6 +136,7 @@ fn answer_with<S: TypeStore>(
 {
     match part {
         "FLOWS" => flow_text(store, alloc, tree, scopes, classes, place),
+        "TEXTS" => flows_text(store, alloc, tree, scopes, classes),
         "FOUND" => checked_text(store, alloc, tree, scopes, classes),
         "TYPES" => types_text(store, alloc, tree, scopes, classes),
         _ => signed_text(store, alloc, tree, scopes, classes, part),

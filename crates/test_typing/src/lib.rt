@@ -3,6 +3,7 @@
 
 mod checks;
 mod notes;
+mod signatures;
 mod tables;
 
 pub use tables::judge;

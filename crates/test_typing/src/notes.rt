@@ -1,9 +1,24 @@
-//! Notes as they are collected, by `pc_notes`.
+//! Notes as they are collected, by `pc_notes`, and the findings of notes as a table writes them.
 use pc_notes::Notes;
 use pc_source::{OutOfMemory, Place};
 use pc_tree::{Code, Finding, Keys, Module};
 use pc_types::{BoxStore, BoxType, TypeStore};
 use std::alloc::Global;
+
+/// Returns findings in order: the code of each, whether it is an error, and the bytes at which it starts and ends.
+pub fn listed(alloc: Global, notes: &Notes) -> Result<String, OutOfMemory> {
+    let mut text = String::new(alloc);
+    for finding in &notes.findings(alloc)? {
+        let (code, start, end) = (finding.code.text(), finding.place.start, finding.place.end);
+        let kind = if finding.code.is_error() {
+            "error"
+        } else {
+            "dynamic"
+        };
+        write!(text, "{code} {kind} {start} {end}; ")?;
+    }
+    Ok(text)
+}
 
 /// Returns the place from one byte up to another.
 fn place(start: usize, end: usize) -> Place {
@@ -59,19 +74,22 @@ fn explained(alloc: Global, code: Code, at: Place) -> Result<String, OutOfMemory
     }
 }
 
-/// Returns the texts of the flows with a code of these notes, in a module without items.
+/// Returns the flows with a code of these notes, in a module without items: the bytes of each place, and the texts of
+/// the two types.
 fn texts(alloc: Global, code: Code) -> Result<String, OutOfMemory> {
+    // The keys of the empty text, which spells no item.
+    let keys = Keys::of(b"");
     let module = Module {
         imports_dataclass: false,
         imports_any: false,
         items: Vec::new(alloc),
         main: place(0, 1),
-        keys: Keys::of(&[]),
+        keys,
     };
     let notes = some_notes(alloc)?;
     let mut texts = String::new(alloc);
-    for (_, from, into) in &notes.texts(alloc, &module, code)? {
-        write!(texts, "{from} into {into}; ")?;
+    for (at, from, into) in &notes.texts(alloc, &module, code)? {
+        write!(texts, "{} {} {from} into {into}; ", at.start, at.end)?;
     }
     Ok(texts)
 }

@@ -12,7 +12,7 @@ use Rattle.pc_walk.specs.StatementsHeld.{HoldsContext}
 use Rattle.pc_walk.specs.Untouched.{WayTakesIn}
 use Rattle.pc_walk.specs.declared.walk.Walk.{Walk}
 use Rattle.pc_walk.specs.Walks.{HoldsEnv, HoldsWay, body_context_in}
-use Rattle.pc_check.specs.Internal.StatementWalk.{walk_with, forked_with, BreaksStaySettled}
+use Rattle.pc_check.specs.Internal.StatementWalk.{walk_with, branching_with, BreaksStaySubsumed}
 
 module _ {Store Ty : Type 0} (S : StoreOf Store Ty) where
   -- the state of a walk, with the environment if this point is reachable, and the exit environment of the enclosing
@@ -21,14 +21,14 @@ module _ {Store Ty : Type 0} (S : StoreOf Store Ty) where
   reached w env way = walk_with S.tree w.declared.now env way (notes_of w.found.now)
 
   -- the state of a walk over branches
-  abbrev pub forked : Walk Store Ty → (last : List (Option Ty)) → (ways way : Option (List (Option Ty)))
+  abbrev pub branching : Walk Store Ty → (last : List (Option Ty)) → (ways way : Option (List (Option Ty)))
       → BranchesResult
-  forked w last ways way = forked_with S.tree w.declared.now last ways way (notes_of w.found.now)
+  branching w last ways way = branching_with S.tree w.declared.now last ways way (notes_of w.found.now)
 
 module _ {Store Ty : Type 0} (S : StoreOf Store Ty) where
   -- the walk is valid with this environment and this exit environment of the enclosing loop, where they exist: the
   -- store gave all types, all are well-formed, and names mean what the scopes say
-  pub record StandsIn (w : Walk Store Ty) (env way : Option (List (Option Ty))) : Type 0 where
+  pub record IsValidWith (w : Walk Store Ty) (env way : Option (List (Option Ty))) : Type 0 where
     pub context : HoldsContext (S.has w.store.now) S.tree w.context
     pub declared : HoldsEnv S w w.declared.now
     pub current : HoldsWay S w env
@@ -41,23 +41,23 @@ module _ {Store Ty : Type 0} (S : StoreOf Store Ty) where
       (option_map (env_of S.tree) way) (option_map (env_of S.tree) env)
 
   -- whatever the exit environment of a loop subsumes before statements that touch these locals, it subsumes after them
-  abbrev pub StaysSettled : (old new : Walk Store Ty) → (touched : (List ℕ → NameMeaning) → List ℕ)
+  abbrev pub StaysSubsumed : (old new : Walk Store Ty) → (touched : (List ℕ → NameMeaning) → List ℕ)
       → (unsettled later : List ℕ) → (env way out : Option (List (Option Ty))) → Type 0
-  StaysSettled old new touched unsettled later env way out =
-      BreaksStaySettled (class_parents old.context.globals.now) (touched (meanings old.context.names.now))
+  StaysSubsumed old new touched unsettled later env way out =
+      BreaksStaySubsumed (class_parents old.context.globals.now) (touched (meanings old.context.names.now))
       unsettled later (option_map (env_of S.tree) way) (option_map (env_of S.tree) env) (option_map (env_of S.tree) out)
 
   -- the walk passed statements, from one environment and exit environment of the enclosing loop to others
   pub record Walked (old : Walk Store Ty) (env way : Option (List (Option Ty))) (new : Walk Store Ty)
       (behind later : Option (List (Option Ty))) (walks : BodyContext → Reached → Reached) : Type 0 where
     pub is : reached S new behind later ≡ walks (body_context_in S old) (reached S old env way)
-    pub stands : StandsIn new behind later
+    pub stands : IsValidWith new behind later
 
   -- the walk passed branches, from the environment where all conditions so far are false, the join at the ends of
   -- suites and the exit environment of the enclosing loop to others
-  pub record Forked (old : Walk Store Ty) (last : List (Option Ty)) (ways way : Option (List (Option Ty)))
+  pub record Branched (old : Walk Store Ty) (last : List (Option Ty)) (ways way : Option (List (Option Ty)))
       (new : Walk Store Ty) (next : List (Option Ty)) (joined later : Option (List (Option Ty)))
       (walks : BodyContext → BranchesResult → BranchesResult) : Type 0 where
-    pub is : forked S new next joined later ≡ walks (body_context_in S old) (forked S old last ways way)
-    pub stands : StandsIn new (Some next) later
+    pub is : branching S new next joined later ≡ walks (body_context_in S old) (branching S old last ways way)
+    pub stands : IsValidWith new (Some next) later
     pub met : HoldsWay S new joined

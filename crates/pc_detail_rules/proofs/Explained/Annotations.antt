@@ -15,7 +15,7 @@ use Rattle.pc_tree.specs.Tree.{Name, Ann, Anns, named, none_type, applied, appli
 use Rattle.pc_scope.specs.declared.resolution.Builtin.{Builtin}
 use Rattle.pc_scope.specs.declared.resolution.Builtin.TheVariants as builtin
 use Rattle.pc_scope.specs.declared.resolution.NameMeaning.{NameMeaning}
-use Rattle.pc_scope.specs.declared.resolution.NameMeaning.TheVariants as res
+use Rattle.pc_scope.specs.declared.resolution.NameMeaning.TheVariants as meaning
 use Rattle.pc_scope.specs.Bindings.{constants_in, functions_in}
 use Rattle.pc_scope.specs.Resolution.{resolve_in_module}
 use Rattle.pc_types.specs.Shape as shape
@@ -57,13 +57,13 @@ builtin_shown word builtin.Any = refl
 builtin_shown word _ = refl
 
 name_shown : (m : Module) (word : List ℕ) (r : NameMeaning) → IsThere (shown_fault (fault_of_name m word r))
-name_shown m word (res.Const i) =
+name_shown m word (meaning.Const i) =
     no_class_shown word (option_map (λ c. c.name) (slice_get (constants_in m.items) i))
-name_shown m word (res.Func i) = no_class_shown word (option_map (λ f. f.name) (slice_get (functions_in m.items) i))
-name_shown m word (res.Builtin b) = builtin_shown word b
-name_shown m word (res.Local x) = refl
-name_shown m word (res.Class c) = refl
-name_shown m word res.None = refl
+name_shown m word (meaning.Func i) = no_class_shown word (option_map (λ f. f.name) (slice_get (functions_in m.items) i))
+name_shown m word (meaning.Builtin b) = builtin_shown word b
+name_shown m word (meaning.Local x) = refl
+name_shown m word (meaning.Class c) = refl
+name_shown m word meaning.None = refl
 
 key_shown : (k : Tree) → is_shown k ≡ true → IsThere (shown_fault (detail.key_type k))
 key_shown k h = subst (λ (b : Test). IsThere (if b then Some (detail.key_type k) else None)) (sym h) refl
@@ -79,12 +79,12 @@ applied_shown word _ ts h = refl
 
 types_shown : (m : Module) (word : List ℕ) (r : NameMeaning) (ts : List Tree) → WrittenOut ts
     → IsThere (shown_fault (fault_of_types m word r ts))
-types_shown m word (res.Builtin b) ts h = applied_shown word b ts h
-types_shown m word (res.Class c) ts h = refl
-types_shown m word (res.Const i) ts h = name_shown m word (res.Const i)
-types_shown m word (res.Func i) ts h = name_shown m word (res.Func i)
-types_shown m word (res.Local x) ts h = refl
-types_shown m word res.None ts h = refl
+types_shown m word (meaning.Builtin b) ts h = applied_shown word b ts h
+types_shown m word (meaning.Class c) ts h = refl
+types_shown m word (meaning.Const i) ts h = name_shown m word (meaning.Const i)
+types_shown m word (meaning.Func i) ts h = name_shown m word (meaning.Func i)
+types_shown m word (meaning.Local x) ts h = refl
+types_shown m word meaning.None ts h = refl
 
 -- ---- unions
 

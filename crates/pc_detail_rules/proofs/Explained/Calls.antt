@@ -18,7 +18,7 @@ use Rattle.pc_tree.specs.Tree.{Expr, Exprs, name, attribute, no_exprs, more_expr
 use Rattle.pc_scope.specs.declared.resolution.Builtin.{Builtin}
 use Rattle.pc_scope.specs.declared.resolution.Builtin.TheVariants as builtin
 use Rattle.pc_scope.specs.declared.resolution.NameMeaning.{NameMeaning}
-use Rattle.pc_scope.specs.declared.resolution.NameMeaning.TheVariants as res
+use Rattle.pc_scope.specs.declared.resolution.NameMeaning.TheVariants as meaning
 use Rattle.pc_scope.specs.declared.resolution.Owner.{Owner}
 use Rattle.pc_scope.specs.Resolution.{resolve, function_of}
 use Rattle.pc_types.specs.Tree.{Tree, Any, NoneType, Class, ListOf, DictOf}
@@ -51,6 +51,7 @@ use Rattle.pc_detail_rules.specs.Calls.{Called, value_called, called_on, named_c
 use Rattle.pc_detail_rules.specs.Calls.{misfit_with, is_length, callees_of, length_of_first}
 use Rattle.pc_detail_rules.specs.Facts.{Known}
 use Rattle.pc_detail_rules.specs.Statements.{tested_local}
+use Rattle.pc_detail_rules.specs.Written.{field_annotations}
 use Rattle.pc_detail_rules.proofs.CallMisfits.{is_wrong, have_misfit, one_exact, values_exact, method_exact}
 use Rattle.pc_detail_rules.proofs.NameMisfits.{name_exact}
 use Rattle.pc_detail_rules.proofs.Explained.Codes.{measured_codes}
@@ -62,7 +63,7 @@ pub record IsContext (m : Module) (owner : Owner) (ctx : Context) : Type 0 where
   pub bases : ctx.bases ≡ bases_of m
   pub classes : ctx.classes ≡ classes_of m
   pub functions : ctx.functions ≡ signatures_of m
-  pub local : (word : List ℕ) (x : ℕ) → ctx.resolve word ≡ res.Local x → IsThere (function_of m owner)
+  pub local : (word : List ℕ) (x : ℕ) → ctx.resolve word ≡ meaning.Local x → IsThere (function_of m owner)
 
 -- ---- a code among others
 
@@ -148,30 +149,30 @@ module _ (m : Module) (ctx : Context) (g : GivenArguments) where
   function_misfit : (functions : ctx.functions ≡ signatures_of m) (env : Env) (i : ℕ) (b : Test) (here : Tree)
       → is_wrong (if b then good_callee (function_offer g (slice_get ctx.functions i) ∷ [])
       else value_callee (in_error E03)).offers ≡ true
-      → have_misfit g (named_callees m g.positional here (res.Func i)) ≡ true
-  function_misfit functions env i true here h = sym (name_exact m [] [] env g (res.Func i) refl)
+      → have_misfit g (named_callees m g.positional here (meaning.Func i)) ≡ true
+  function_misfit functions env i true here h = sym (name_exact m [] [] env g (meaning.Func i) refl)
       ∙ subst (λ (fs : List Signature). is_wrong (function_offer g (slice_get fs i) ∷ []) ≡ true) functions h
   function_misfit functions env i false here h = any_right h
 
   class_misfit : (classes : ctx.classes ≡ classes_of m) (c : ℕ) (b : Test) (here : Tree)
       → is_wrong (if b then good_callee (signature_offer g (class_signature ctx.classes c) ∷ [])
       else value_callee (in_error E03)).offers ≡ true
-      → have_misfit g (named_callees m g.positional here (res.Class c)) ≡ true
+      → have_misfit g (named_callees m g.positional here (meaning.Class c)) ≡ true
   class_misfit classes c true here h =
       let s = class_signature (classes_of m) c in
-      sym (one_exact g s s (called_class (class_text m c)) refl)
+      sym (one_exact g s s (called_class (class_text m c)) (field_annotations m c s.parameters) refl)
       ∙ subst (λ (cs : List facts.ClassFacts). is_wrong (signature_offer g (class_signature cs c) ∷ []) ≡ true) classes h
   class_misfit classes c false here h = any_right h
 
   name_misfit : ctx.functions ≡ signatures_of m → ctx.classes ≡ classes_of m → (env : Env) (r : NameMeaning) (here : Tree)
       → here ≡ (name_callee ctx env g r).label.type → is_wrong (name_callee ctx env g r).offers ≡ true
       → have_misfit g (named_callees m g.positional here r) ≡ true
-  name_misfit fs cs env (res.Func i) here e h = function_misfit fs env i ctx.in_body here h
-  name_misfit fs cs env (res.Class c) here e h = class_misfit cs c (nat_lt c ctx.known) here h
-  name_misfit fs cs env (res.Builtin b) here e h = sym (name_exact m [] [] env g (res.Builtin b) refl) ∙ h
-  name_misfit fs cs env (res.Local x) here e h = value_misfit here (name_label ctx env (res.Local x)).type e h
-  name_misfit fs cs env (res.Const i) here e h = value_misfit here (name_label ctx env (res.Const i)).type e h
-  name_misfit fs cs env res.None here e h = value_misfit here (name_label ctx env res.None).type e h
+  name_misfit fs cs env (meaning.Func i) here e h = function_misfit fs env i ctx.in_body here h
+  name_misfit fs cs env (meaning.Class c) here e h = class_misfit cs c (nat_lt c ctx.known) here h
+  name_misfit fs cs env (meaning.Builtin b) here e h = sym (name_exact m [] [] env g (meaning.Builtin b) refl) ∙ h
+  name_misfit fs cs env (meaning.Local x) here e h = value_misfit here (name_label ctx env (meaning.Local x)).type e h
+  name_misfit fs cs env (meaning.Const i) here e h = value_misfit here (name_label ctx env (meaning.Const i)).type e h
+  name_misfit fs cs env meaning.None here e h = value_misfit here (name_label ctx env meaning.None).type e h
 
   -- a method
   method_misfit : ctx.classes ≡ classes_of m → ctx.bases ≡ bases_of m → (word : List ℕ) (b : Test) (here t : Tree)
@@ -294,7 +295,7 @@ module _ (P : Code → Type 0) where
   own_or_wrong e false rule = (e, tt)
 
   -- of `len` only E14
-  builtin_codes : P E14 → (g : GivenArguments) (b : Builtin) → (is_length (res.Builtin b) ≡ false → P A6 × P E27)
+  builtin_codes : P E14 → (g : GivenArguments) (b : Builtin) → (is_length (meaning.Builtin b) ≡ false → P A6 × P E27)
       → AtCalls (builtin_callee g b).offers
   builtin_codes e g builtin.Print h = two_ways (has_none g.named) _ (fails_at_call E14) tt (e, tt)
   builtin_codes e g builtin.Str h = two_ways (is_one g) _ (fails_at_call E14) tt (e, tt)
@@ -314,16 +315,16 @@ module _ (P : Code → Type 0) where
 
   name_codes : P E14 → (ctx : Context) (env : Env) (g : GivenArguments) (r : NameMeaning)
       → (is_length r ≡ false → P A6 × P E27) → AtCalls (name_callee ctx env g r).offers
-  name_codes e ctx env g (res.Func i) h = good_or_early (h refl).0 ctx.in_body
+  name_codes e ctx env g (meaning.Func i) h = good_or_early (h refl).0 ctx.in_body
       (function_offer g (slice_get ctx.functions i)) (function_codes e (h refl).0 g (slice_get ctx.functions i))
-  name_codes e ctx env g (res.Class c) h = good_or_early (h refl).0 (nat_lt c ctx.known)
+  name_codes e ctx env g (meaning.Class c) h = good_or_early (h refl).0 (nat_lt c ctx.known)
       (signature_offer g (class_signature ctx.classes c)) (signature_codes e g (class_signature ctx.classes c))
-  name_codes e ctx env g (res.Builtin b) h = builtin_codes e g b h
-  name_codes e ctx env g (res.Local x) h = values_codes e (h refl).0
-      (members (name_label ctx env (res.Local x)).type)
-  name_codes e ctx env g (res.Const i) h = values_codes e (h refl).0
-      (members (name_label ctx env (res.Const i)).type)
-  name_codes e ctx env g res.None h = values_codes e (h refl).0 (members (name_label ctx env res.None).type)
+  name_codes e ctx env g (meaning.Builtin b) h = builtin_codes e g b h
+  name_codes e ctx env g (meaning.Local x) h = values_codes e (h refl).0
+      (members (name_label ctx env (meaning.Local x)).type)
+  name_codes e ctx env g (meaning.Const i) h = values_codes e (h refl).0
+      (members (name_label ctx env (meaning.Const i)).type)
+  name_codes e ctx env g meaning.None h = values_codes e (h refl).0 (members (name_label ctx env meaning.None).type)
 
 -- whether a callee is the name `len`
 abbrev pub is_length_called : Context → Expr → Test
@@ -359,16 +360,16 @@ built_length g _ e = absurd (cc e)
 
 named_length : (ctx : Context) (env : Env) (g : GivenArguments) (r : NameMeaning)
     → (name_callee ctx env g r).rule ≡ length_rule → is_one g ≡ true
-named_length ctx env g (res.Func i) e = neither_length ctx.in_body
+named_length ctx env g (meaning.Func i) e = neither_length ctx.in_body
     (good_callee (function_offer g (slice_get ctx.functions i) ∷ [])) (value_callee (in_error E03))
     (λ k. absurd (cc k)) (λ k. absurd (cc k)) e
-named_length ctx env g (res.Class c) e = neither_length (nat_lt c ctx.known)
+named_length ctx env g (meaning.Class c) e = neither_length (nat_lt c ctx.known)
     (good_callee (signature_offer g (class_signature ctx.classes c) ∷ [])) (value_callee (in_error E03))
     (λ k. absurd (cc k)) (λ k. absurd (cc k)) e
-named_length ctx env g (res.Builtin b) e = built_length g b e
-named_length ctx env g (res.Local x) e = absurd (cc e)
-named_length ctx env g (res.Const i) e = absurd (cc e)
-named_length ctx env g res.None e = absurd (cc e)
+named_length ctx env g (meaning.Builtin b) e = built_length g b e
+named_length ctx env g (meaning.Local x) e = absurd (cc e)
+named_length ctx env g (meaning.Const i) e = absurd (cc e)
+named_length ctx env g meaning.None e = absurd (cc e)
 
 -- a call by the rule of `len` has one argument
 pub called_length : (ctx : Context) (env : Env) (g : GivenArguments) (c : Expr) (value : Labels c)

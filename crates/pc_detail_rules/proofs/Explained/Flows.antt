@@ -4,7 +4,7 @@ use Rattle.std.proofs.Common.{map, Contains}
 use Rattle.pc_tree.proofs.Among.{first_among}
 use Rattle.std.proofs.lemmas.List.Elements.{Contains-append_right}
 use Rattle.std.specs.List.{AllByRecursion}
-use Rattle.std.specs.Prelude.{flat_map, find, Option}
+use Rattle.std.specs.Prelude.{flat_map, find, Option, Some}
 use Rattle.pc_source.specs.declared.place.Place.{Place}
 use Rattle.pc_tree.specs.declared.code.Code.{Code}
 use Rattle.pc_tree.specs.Depth.{place_of}
@@ -139,16 +139,16 @@ module _ (m : Module) (labels : Labelling m) (code : Code) (separate : HasOwnPla
   param_sinks : (b : Body) → Contains (bodies m) b
       → AreIn ss (flat_map (parameter_default (function_name m b)) b.function.params)
   param_sinks b of = all_left (Contains ss) (flat_map (parameter_default (function_name m b)) b.function.params)
-      (flat_map (sinks_of_stmt m known (function_name m b)) (stmts_in_suite b.function.body)) (body_sinks b of)
+      (flat_map (sinks_of_stmt m known b) (stmts_in_suite b.function.body)) (body_sinks b of)
 
   function_sunk : (b : Body) → Contains (bodies m) b → (k : FunctionLabels b.function)
       → LawfulFunction m constants b.owner b.function k → Known' (types_in_suite true b.function.body k.body)
       → Goes (coded_in_suite code b.function.body k.body)
   function_sunk b of k law typed =
       let d = b.function in
-      let stmts = all_unjoined (Contains ss) (sinks_of_stmt m known (function_name m b)) (stmts_in_suite d.body)
+      let stmts = all_unjoined (Contains ss) (sinks_of_stmt m known b) (stmts_in_suite d.body)
       (all_right (Contains ss) (flat_map (parameter_default (function_name m b)) d.params)
-      (flat_map (sinks_of_stmt m known (function_name m b)) (stmts_in_suite d.body)) (body_sinks b of)) in
+      (flat_map (sinks_of_stmt m known b) (stmts_in_suite d.body)) (body_sinks b of)) in
       suite_sunk m known code ss constants b of k.declared (return_type m d)
       (names_entered [] (entry_parameters m b.owner d)) _ d.body k.body k.out law.body stmts typed (body_exprs b of)
 
@@ -168,7 +168,7 @@ module _ (m : Module) (labels : Labelling m) (code : Code) (separate : HasOwnPla
       let later = members_sunk cname base c nth (x.name.text ∷ before) ms k.rest law.others own
       (all_right (Contains ss) (default_of_field cname (field_member x)) others at) typed in (
         joined (coded_at_default code x.default k.default) (coded_in_members code ms k.rest)
-            (default_sunk m known code ss _ x.default _ k.default (a_field_default cname x.name.text) law.default
+            (default_sunk m known code ss _ x.default _ k.default (a_field_default cname x.name.text) (Some x.annotation) law.default
             (all_left (Contains ss) (default_of_field cname (field_member x)) others at)) later.0,
         later.1,
       )
@@ -222,10 +222,10 @@ module _ (m : Module) (labels : Labelling m) (code : Code) (separate : HasOwnPla
         bodies = later.bodies;
       }
     where
-      every : (ts : List Tree) → Contains ss (only_sink (place_of c.value) (a_constant c.name.text))
+      every : (ts : List Tree) → Contains ss (only_sink (place_of c.value) (a_constant c.name.text) c.annotation)
           → AreSunk ss (place_of c.value) ts
       every [] h = tt
-      every (t ∷ ts) h = (only_there ss (place_of c.value) (a_constant c.name.text) t h, every ts h)
+      every (t ∷ ts) h = (only_there ss (place_of c.value) (a_constant c.name.text) t c.annotation h, every ts h)
   items_sunk_all b (class_item p c ∷ rest) k law parts consts classes functions methods typed bodied =
       let own = method_bodies b.classes 0 (methods_in c.members) in
       let others = class_bodies (suc b.classes) (classes_in rest) in

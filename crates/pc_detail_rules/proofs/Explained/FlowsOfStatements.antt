@@ -15,7 +15,7 @@ use Rattle.pc_tree.specs.Tree.{Module}
 use Rattle.pc_tree.specs.Stopping.{bound_by_stmt, bound_by, bound_by_branches}
 use Rattle.pc_scope.specs.declared.resolution.Builtin.TheVariants as builtin
 use Rattle.pc_scope.specs.declared.resolution.NameMeaning.{NameMeaning}
-use Rattle.pc_scope.specs.declared.resolution.NameMeaning.TheVariants as res
+use Rattle.pc_scope.specs.declared.resolution.NameMeaning.TheVariants as meaning
 use Rattle.pc_scope.specs.Bindings.{texts, Body}
 use Rattle.pc_scope.specs.Bindings.{bodies}
 use Rattle.pc_scope.specs.Expressions.{is_named, is_instance_test, parts_in_all}
@@ -89,7 +89,7 @@ module _ (m : Module) (known : Known) (code : Code) (ss : List SinkAt) where
 
     -- the sinks of a statement are among all
     abbrev pub StmtSinks : Stmt → Type 0
-    StmtSinks s = AreIn ss (sinks_of_stmt m known shown s)
+    StmtSinks s = AreIn ss (sinks_of_stmt m known b s)
 
     abbrev AreStmts : List Stmt → Type 0
     AreStmts xs = AllByRecursion StmtSinks xs
@@ -100,10 +100,10 @@ module _ (m : Module) (known : Known) (code : Code) (ss : List SinkAt) where
         whole_sunk m known code ss b.owner Ctx (in_context m known constants b of) declared env want e labels law typed has
 
     -- flows into one type, of a value with a sink that takes any
-    only_sunk : (label : Label) (t : Tree) (flows : FlowLabels) (p : Place) (s : Sink Tree)
-        → Contains ss (only_sink p s) → FlowsInto (bases_of m) label (t ∷ []) flows → Go ss (coded_at code p flows)
-    only_sunk label t flows p s has law = flows_sunk ss code (bases_of m) label (t ∷ []) flows p law
-        (only_there ss p s t has, tt)
+    only_sunk : (label : Label) (t : Tree) (flows : FlowLabels) (p : Place) (s : Sink Tree) (a : Option Ann)
+        → Contains ss (only_sink p s a) → FlowsInto (bases_of m) label (t ∷ []) flows → Go ss (coded_at code p flows)
+    only_sunk label t flows p s a has law = flows_sunk ss code (bases_of m) label (t ∷ []) flows p law
+        (only_there ss p s t a has, tt)
 
     -- ---- iterables
 
@@ -121,12 +121,12 @@ module _ (m : Module) (known : Known) (code : Code) (ss : List SinkAt) where
         let os = range_offers g in
         let in_args = types_in_arguments true is_test args labels.arguments in
         let in_kws = types_in_keywords true kws labels.keywords in
-        let built : resolve m owner n.text ≡ res.Builtin builtin.Range = ctx.resolves n.text
+        let built : resolve m owner n.text ≡ meaning.Builtin builtin.Range = ctx.resolves n.text
         ∙ range_is (Ctx.resolve n.text) means in
         let each : AreTaken ss cs (flat_map (λ (o : CallOffer). o.calls) os) =
         subst (λ (r : NameMeaning). AreTaken ss (named_callees m g.positional (known.types n.place) r)
         (flat_map (λ (o : CallOffer). o.calls) os)) (sym built)
-        (one_taken ss g range_signature (builtin_signature (Int ∷ []) Any) (called_builtin (codes "range")) refl) in
+        (one_taken ss g range_signature (builtin_signature (Int ∷ []) Any) (called_builtin (codes "range")) [] refl) in
         let others = has.1.1 in
         both ss (coded_in_arguments code is_test args labels.arguments) (coded_in_keywords code kws labels.keywords)
         (arguments_sunk m known code ss owner Ctx ctx declared env (positional_seat os) args labels.arguments law.arguments
@@ -169,22 +169,22 @@ module _ (m : Module) (known : Known) (code : Code) (ss : List SinkAt) where
         (of_expr env None e labels law typed has) (none_sunk ss code flows p none)
 
     binding_sunk : (env : Env) (seen : NamesBound) (n : Name) (r : NameMeaning) (annotation : Option Tree) (e : Expr)
-        (labels : Labels e) (flows : FlowLabels) (after : Env) (s : Sink Tree)
+        (labels : Labels e) (flows : FlowLabels) (after : Env) (s : Sink Tree) (written : Option Ann)
         → LawfulBinding m Ctx declared env seen n r annotation e labels flows after
-        → Contains ss (only_sink (place_of e) s) → AreKnown (types_in true e labels) → HasAll m known ss b.owner e
+        → Contains ss (only_sink (place_of e) s written) → AreKnown (types_in true e labels) → HasAll m known ss b.owner e
         → Go ss (coded_in code e labels ++ coded_at code (place_of e) flows)
-    binding_sunk env seen n (res.Local x) annotation e labels flows after s law at typed has =
+    binding_sunk env seen n (meaning.Local x) annotation e labels flows after s written law at typed has =
         both ss (coded_in code e labels) (coded_at code (place_of e) flows) (of_expr env _ e labels law.value typed has)
-        (only_sunk (whole_label e labels) (declared_type declared x) flows (place_of e) s at law.flow)
-    binding_sunk env seen n (res.Const x) annotation e labels flows after s law at typed has =
+        (only_sunk (whole_label e labels) (declared_type declared x) flows (place_of e) s written at law.flow)
+    binding_sunk env seen n (meaning.Const x) annotation e labels flows after s written law at typed has =
         unbound_sunk env e labels flows (place_of e) law.value law.flow typed has
-    binding_sunk env seen n (res.Func x) annotation e labels flows after s law at typed has =
+    binding_sunk env seen n (meaning.Func x) annotation e labels flows after s written law at typed has =
         unbound_sunk env e labels flows (place_of e) law.value law.flow typed has
-    binding_sunk env seen n (res.Class x) annotation e labels flows after s law at typed has =
+    binding_sunk env seen n (meaning.Class x) annotation e labels flows after s written law at typed has =
         unbound_sunk env e labels flows (place_of e) law.value law.flow typed has
-    binding_sunk env seen n (res.Builtin x) annotation e labels flows after s law at typed has =
+    binding_sunk env seen n (meaning.Builtin x) annotation e labels flows after s written law at typed has =
         unbound_sunk env e labels flows (place_of e) law.value law.flow typed has
-    binding_sunk env seen n res.None annotation e labels flows after s law at typed has =
+    binding_sunk env seen n meaning.None annotation e labels flows after s written law at typed has =
         unbound_sunk env e labels flows (place_of e) law.value law.flow typed has
 
     annotated_sunk : (env : Env) (seen : NamesBound) (p : Place) (n : Name) (a : Ann) (e : Option Expr)
@@ -194,7 +194,7 @@ module _ (m : Module) (known : Known) (code : Code) (ss : List SinkAt) where
         → Go ss (coded_in_value code p e labels flows)
     annotated_sunk env seen p n a None labels flows after law at typed has = none_sunk ss code flows p law.1
     annotated_sunk env seen p n a (Some e) labels flows after law at typed has =
-        binding_sunk env seen n (Ctx.resolve n.text) _ e labels flows after (a_local n.text) law at.0 typed has.0
+        binding_sunk env seen n (Ctx.resolve n.text) _ e labels flows after (a_local n.text) _ law at.0 typed has.0
 
     object_types : (o : Expr) (labels : Labels o) → AreKnown (types_in true o labels)
         → known.types (place_of o) ≡ type_of o labels
@@ -206,7 +206,7 @@ module _ (m : Module) (known : Known) (code : Code) (ss : List SinkAt) where
         → AreKnown (types_in_target true t target ++ types_in true e labels) → Wholes (e ∷ target_exprs t)
         → Go ss (coded_in_target code t target ++ (coded_in code e labels ++ coded_at code (place_of e) flows))
     assigned_sunk env seen p (to_name n) target e labels flows after law at typed has =
-        binding_sunk env seen n (Ctx.resolve n.text) None e labels flows after (a_local n.text) law at.0 typed has.0
+        binding_sunk env seen n (Ctx.resolve n.text) None e labels flows after (a_local n.text) _ law at.0 typed has.0
     assigned_sunk env seen p (to_attribute q o n) target e labels flows after law at typed has =
         let in_object = types_in true o target.object in
         let object = all_left (IsKnown known) in_object (types_in true e labels) typed in
@@ -241,15 +241,16 @@ module _ (m : Module) (known : Known) (code : Code) (ss : List SinkAt) where
         (items_stored ss (place_of i) (place_of e) us stores)))
 
     target_sunk : (seen : NamesBound) (n : Name) (r : NameMeaning) (head : Env) (item : Label) (flows : FlowLabels)
-        (inside : Env) (p : Place) (s : Sink Tree) → LawfulTarget m Ctx declared seen n r head item flows inside
-        → Contains ss (only_sink p s) → Go ss (coded_at code p flows)
-    target_sunk seen n (res.Local x) head item flows inside p s law at =
-        only_sunk (clean item.type) (declared_type declared x) flows p s at law.flow
-    target_sunk seen n (res.Const x) head item flows inside p s law at = none_sunk ss code flows p law.0
-    target_sunk seen n (res.Func x) head item flows inside p s law at = none_sunk ss code flows p law.0
-    target_sunk seen n (res.Class x) head item flows inside p s law at = none_sunk ss code flows p law.0
-    target_sunk seen n (res.Builtin x) head item flows inside p s law at = none_sunk ss code flows p law.0
-    target_sunk seen n res.None head item flows inside p s law at = none_sunk ss code flows p law.0
+        (inside : Env) (p : Place) (s : Sink Tree) (a : Option Ann)
+        → LawfulTarget m Ctx declared seen n r head item flows inside
+        → Contains ss (only_sink p s a) → Go ss (coded_at code p flows)
+    target_sunk seen n (meaning.Local x) head item flows inside p s a law at =
+        only_sunk (clean item.type) (declared_type declared x) flows p s a at law.flow
+    target_sunk seen n (meaning.Const x) head item flows inside p s a law at = none_sunk ss code flows p law.0
+    target_sunk seen n (meaning.Func x) head item flows inside p s a law at = none_sunk ss code flows p law.0
+    target_sunk seen n (meaning.Class x) head item flows inside p s a law at = none_sunk ss code flows p law.0
+    target_sunk seen n (meaning.Builtin x) head item flows inside p s a law at = none_sunk ss code flows p law.0
+    target_sunk seen n meaning.None head item flows inside p s a law at = none_sunk ss code flows p law.0
 
     -- ---- all statements
 
@@ -259,11 +260,11 @@ module _ (m : Module) (known : Known) (code : Code) (ss : List SinkAt) where
           → AreKnown (types_in_option true e labels) → Wholes (option_exprs e)
           → Go ss (coded_in_value code p e labels flows)
       returned_sunk env p None labels flows law at typed has =
-          only_sunk (clean NoneType) returned flows p (a_return shown) at.0 law
+          only_sunk (clean NoneType) returned flows p (a_return shown) b.function.returns at.0 law
       returned_sunk env p (Some e) labels flows law at typed has =
           both ss (coded_in code e labels) (coded_at code (place_of e) flows)
           (of_expr env (Some returned) e labels law.0 typed has.0)
-          (only_sunk (whole_label e labels) returned flows (place_of e) (a_return shown) at.0 law.1)
+          (only_sunk (whole_label e labels) returned flows (place_of e) (a_return shown) b.function.returns at.0 law.1)
 
       message_sunk : (env : Env) (e : Option Expr) (labels : OptionLabels e)
           → LawfulOption m Ctx declared returned env e labels → AreKnown (types_in_option true e labels)
@@ -327,7 +328,7 @@ module _ (m : Module) (known : Known) (code : Code) (ss : List SinkAt) where
             (iterable_sunk env e labels.iterable labels.item law.iterable (all_left (IsKnown known) in_head in_body typed) has.0)
             (both ss (coded_at code (place_of e) labels.flows) (coded_in_suite code b labels.body)
             (target_sunk seen n (Ctx.resolve n.text) labels.head labels.item labels.flows law.inside (place_of e)
-            (a_loop_target n.text) law.target at.0.0)
+            (a_loop_target n.text) _ law.target at.0.0)
             (suite_sunk (n.text ∷ seen) law.inside b labels.body labels.out law.body at.1
             (all_right (IsKnown known) in_head in_body typed) has.1))
         stmt_sunk seen env (conditional p bs o) labels out law at typed has =
@@ -378,12 +379,12 @@ module _ (m : Module) (known : Known) (code : Code) (ss : List SinkAt) where
 
   -- ---- defaults
 
-  pub default_sunk : (binds : Test) (l : Option Literal) (t : Tree) (flows : FlowLabels) (s : Sink Tree)
-      → LawfulDefault (bases_of m) binds l t flows → AreIn ss (default_sink s l) → Go ss (coded_at_default code l flows)
-  default_sunk binds None t flows s law at = tt
-  default_sunk false (Some l) t flows s law at = none_sunk ss code flows (literal_place l) law
-  default_sunk true (Some l) t flows s law at = flows_sunk ss code (bases_of m) (clean (literal_type l)) (t ∷ []) flows
-      (literal_place l) law (only_there ss (literal_place l) s t at.0, tt)
+  pub default_sunk : (binds : Test) (l : Option Literal) (t : Tree) (flows : FlowLabels) (s : Sink Tree) (a : Option Ann)
+      → LawfulDefault (bases_of m) binds l t flows → AreIn ss (default_sink s a l) → Go ss (coded_at_default code l flows)
+  default_sunk binds None t flows s a law at = tt
+  default_sunk false (Some l) t flows s a law at = none_sunk ss code flows (literal_place l) law
+  default_sunk true (Some l) t flows s a law at = flows_sunk ss code (bases_of m) (clean (literal_type l)) (t ∷ []) flows
+      (literal_place l) law (only_there ss (literal_place l) s t a at.0, tt)
 
   pub params_sunk : (fname : FunctionName) (before : List (List ℕ)) (ps : List Param) (k : ParamsLabels ps)
       → LawfulParams m before ps k → AreIn ss (flat_map (parameter_default fname) ps) → Go ss (coded_in_params code ps k)
@@ -391,7 +392,8 @@ module _ (m : Module) (known : Known) (code : Code) (ss : List SinkAt) where
   params_sunk fname before (p ∷ ps) k law at =
       let others = flat_map (parameter_default fname) ps in
       both ss (coded_at_default code p.default k.default) (coded_in_params code ps k.rest)
-      (default_sunk (binds_name before p.name) p.default _ k.default (a_parameter_default p.name.text fname) law.default
+      (default_sunk (binds_name before p.name) p.default _ k.default (a_parameter_default p.name.text fname) p.annotation
+      law.default
       (all_left (Contains ss) (parameter_default fname p) others at))
       (params_sunk fname (p.name.text ∷ before) ps k.rest law.rest
       (all_right (Contains ss) (parameter_default fname p) others at))

@@ -18,7 +18,7 @@ use Rattle.pc_tree.specs.Tree.{attribute, index, call, FuncDef, Module}
 use Rattle.pc_scope.specs.declared.resolution.Builtin.{Builtin}
 use Rattle.pc_scope.specs.declared.resolution.Builtin.TheVariants as builtin
 use Rattle.pc_scope.specs.declared.resolution.NameMeaning.{NameMeaning}
-use Rattle.pc_scope.specs.declared.resolution.NameMeaning.TheVariants as res
+use Rattle.pc_scope.specs.declared.resolution.NameMeaning.TheVariants as meaning
 use Rattle.pc_scope.specs.declared.resolution.Owner.{Owner}
 use Rattle.pc_scope.specs.Expressions.{is_instance_test}
 use Rattle.pc_scope.specs.Resolution.{resolve, function_of}
@@ -194,7 +194,7 @@ module _ (m : Module) (known : Known) (owner : Owner) (ctx : Context) (is : IsCo
   not_value n r e h a = there_mapped not_a_value (meaning_of_name n.text (resolve m owner n.text))
       (subst (λ (x : NameMeaning). IsThere (meaning_of_name n.text x)) (sym (is.resolves n.text ∙ e)) h)
 
-  unassigned : (n : Name) (x : ℕ) → ctx.resolve n.text ≡ res.Local x → IsGiven (name n) E04
+  unassigned : (n : Name) (x : ℕ) → ctx.resolve n.text ≡ meaning.Local x → IsGiven (name n) E04
   unassigned n x e a = go (function_of m owner) (is.local n.text x e)
     where
       go : (o : Option FuncDef) → IsThere o
@@ -204,22 +204,22 @@ module _ (m : Module) (known : Known) (owner : Owner) (ctx : Context) (is : IsCo
 
   named_codes : (env : Env) (n : Name) (r : NameMeaning) → ctx.resolve n.text ≡ r
       → AtLabel (IsGiven (name n)) (name_label ctx env r)
-  named_codes env n (res.Local x) e = go (current env x)
+  named_codes env n (meaning.Local x) e = go (current env x)
     where
       go : (o : Option Tree) → AtLabel (IsGiven (name n)) (local_label o)
       go None = (unassigned n x e, tt)
       go (Some t) = tt
-  named_codes env n (res.Const i) e = go (slice_get ctx.constants i)
+  named_codes env n (meaning.Const i) e = go (slice_get ctx.constants i)
     where
       go : (o : Option Tree) → AtLabel (IsGiven (name n)) (constant_label o)
       go None = (early (name n), tt)
       go (Some t) = tt
-  named_codes env n (res.Func i) e = in_both (AtLabel (IsGiven (name n))) ctx.in_body (in_error E20) (in_error E03)
-      (not_value n (res.Func i) e refl, tt) (early (name n), tt)
-  named_codes env n (res.Class c) e = in_both (AtLabel (IsGiven (name n))) (nat_lt c ctx.known) (in_error E20)
-      (in_error E03) (not_value n (res.Class c) e refl, tt) (early (name n), tt)
-  named_codes env n (res.Builtin b) e = (not_value n (res.Builtin b) e refl, tt)
-  named_codes env n res.None e = (unknown (name n), tt)
+  named_codes env n (meaning.Func i) e = in_both (AtLabel (IsGiven (name n))) ctx.in_body (in_error E20) (in_error E03)
+      (not_value n (meaning.Func i) e refl, tt) (early (name n), tt)
+  named_codes env n (meaning.Class c) e = in_both (AtLabel (IsGiven (name n))) (nat_lt c ctx.known) (in_error E20)
+      (in_error E03) (not_value n (meaning.Class c) e refl, tt) (early (name n), tt)
+  named_codes env n (meaning.Builtin b) e = (not_value n (meaning.Builtin b) e refl, tt)
+  named_codes env n meaning.None e = (unknown (name n), tt)
 
   -- names that are called
   good_codes : (n : Name) (b : Test) (x : CalleeLabel) → AtLabel (IsGiven (name n)) x.label
@@ -227,7 +227,7 @@ module _ (m : Module) (known : Known) (owner : Owner) (ctx : Context) (is : IsCo
   good_codes n true x h = h
   good_codes n false x h = (early (name n), tt)
 
-  built_codes : (g : GivenArguments) (n : Name) (b : Builtin) → ctx.resolve n.text ≡ res.Builtin b
+  built_codes : (g : GivenArguments) (n : Name) (b : Builtin) → ctx.resolve n.text ≡ meaning.Builtin b
       → AtLabel (IsGiven (name n)) (builtin_callee g b).label
   built_codes g n builtin.Print e = tt
   built_codes g n builtin.Str e = tt
@@ -236,18 +236,18 @@ module _ (m : Module) (known : Known) (owner : Owner) (ctx : Context) (is : IsCo
   built_codes g n builtin.IsInstance e = in_both (λ (x : CalleeLabel). AtLabel (IsGiven (name n)) x.label) (is_two g)
       (own_callee test_rule) (good_callee (fails_at_call E14 ∷ [])) tt tt
   built_codes g n builtin.Range e = tt
-  built_codes g n b e = (not_value n (res.Builtin b) e refl, tt)
+  built_codes g n b e = (not_value n (meaning.Builtin b) e refl, tt)
 
   called_codes : (env : Env) (g : GivenArguments) (n : Name) (r : NameMeaning) → ctx.resolve n.text ≡ r
       → AtLabel (IsGiven (name n)) (name_callee ctx env g r).label
-  called_codes env g n (res.Func i) e =
+  called_codes env g n (meaning.Func i) e =
       good_codes n ctx.in_body (good_callee (function_offer g (slice_get ctx.functions i) ∷ [])) tt
-  called_codes env g n (res.Class c) e = good_codes n (nat_lt c ctx.known)
+  called_codes env g n (meaning.Class c) e = good_codes n (nat_lt c ctx.known)
       (good_callee (signature_offer g (class_signature ctx.classes c) ∷ [])) tt
-  called_codes env g n (res.Builtin b) e = built_codes g n b e
-  called_codes env g n (res.Local x) e = named_codes env n (res.Local x) e
-  called_codes env g n (res.Const i) e = named_codes env n (res.Const i) e
-  called_codes env g n res.None e = named_codes env n res.None e
+  called_codes env g n (meaning.Builtin b) e = built_codes g n b e
+  called_codes env g n (meaning.Local x) e = named_codes env n (meaning.Local x) e
+  called_codes env g n (meaning.Const i) e = named_codes env n (meaning.Const i) e
+  called_codes env g n meaning.None e = named_codes env n meaning.None e
 
   -- attributes
   attribute_given : (p : Place) (e : Expr) (field : Name) → IsThere

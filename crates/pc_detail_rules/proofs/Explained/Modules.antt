@@ -16,7 +16,7 @@ use Rattle.pc_tree.specs.Tree.{Name, Literal, Ann, Param, Stmt, Member, field_me
 use Rattle.pc_tree.specs.Tree.{Item, constant_item, class_item, def_item, Module}
 use Rattle.pc_scope.specs.declared.resolution.Builtin.{Builtin}
 use Rattle.pc_scope.specs.declared.resolution.NameMeaning.{NameMeaning}
-use Rattle.pc_scope.specs.declared.resolution.NameMeaning.TheVariants as res
+use Rattle.pc_scope.specs.declared.resolution.NameMeaning.TheVariants as meaning
 use Rattle.pc_scope.specs.declared.resolution.Owner.TheVariants as owners
 use Rattle.pc_scope.specs.Bindings.{param_names, constants_in, functions_in, classes_in, methods_in, Body, function_bodies}
 use Rattle.pc_scope.specs.Bindings.{method_bodies, class_bodies, bodies}
@@ -63,32 +63,32 @@ use Rattle.pc_detail_rules.proofs.Explained.Told.{Asked, IsTold, anns_of_module}
 
 -- a meaning that is a local
 abbrev is_local : NameMeaning → Test
-is_local (res.Local x) = true
+is_local (meaning.Local x) = true
 is_local r = false
 
 -- items bind no local
 first_is_global : (k f c : ℕ) (items : List Item) (word : List ℕ)
-    → is_local (or_meaning (bound_first k f c items word) res.None) ≡ false
+    → is_local (or_meaning (bound_first k f c items word) meaning.None) ≡ false
 first_is_global k f c [] word = refl
 first_is_global k f c (constant_item p i ∷ rest) word = go (bytes_eq i.name.text word)
     (first_is_global (suc k) f c rest word)
   where
-    go : (b : Test) → is_local (or_meaning (bound_first (suc k) f c rest word) res.None) ≡ false
-        → is_local (or_meaning (if b then Some (res.Const k) else bound_first (suc k) f c rest word) res.None) ≡ false
+    go : (b : Test) → is_local (or_meaning (bound_first (suc k) f c rest word) meaning.None) ≡ false
+        → is_local (or_meaning (if b then Some (meaning.Const k) else bound_first (suc k) f c rest word) meaning.None) ≡ false
     go true h = refl
     go false h = h
 first_is_global k f c (def_item p i ∷ rest) word = go (bytes_eq i.name.text word)
     (first_is_global k (suc f) c rest word)
   where
-    go : (b : Test) → is_local (or_meaning (bound_first k (suc f) c rest word) res.None) ≡ false
-        → is_local (or_meaning (if b then Some (res.Func f) else bound_first k (suc f) c rest word) res.None) ≡ false
+    go : (b : Test) → is_local (or_meaning (bound_first k (suc f) c rest word) meaning.None) ≡ false
+        → is_local (or_meaning (if b then Some (meaning.Func f) else bound_first k (suc f) c rest word) meaning.None) ≡ false
     go true h = refl
     go false h = h
 first_is_global k f c (class_item p i ∷ rest) word = go (bytes_eq i.name.text word)
     (first_is_global k f (suc c) rest word)
   where
-    go : (b : Test) → is_local (or_meaning (bound_first k f (suc c) rest word) res.None) ≡ false
-        → is_local (or_meaning (if b then Some (res.Class c) else bound_first k f (suc c) rest word) res.None) ≡ false
+    go : (b : Test) → is_local (or_meaning (bound_first k f (suc c) rest word) meaning.None) ≡ false
+        → is_local (or_meaning (if b then Some (meaning.Class c) else bound_first k f (suc c) rest word) meaning.None) ≡ false
     go true h = refl
     go false h = h
 
@@ -96,7 +96,7 @@ is_global : (m : Module) (word : List ℕ) → is_local (resolve_in_module m wor
 is_global m word = go (builtin_of word)
   where
     go : (o : Option Builtin)
-        → is_local (or_meaning (builtin_meaning o) (or_meaning (bound_first 0 0 0 m.items word) res.None)) ≡ false
+        → is_local (or_meaning (builtin_meaning o) (or_meaning (bound_first 0 0 0 m.items word) meaning.None)) ≡ false
     go None = first_is_global 0 0 0 m.items word
     go (Some b) = refl
 

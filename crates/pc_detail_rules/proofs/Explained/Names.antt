@@ -28,7 +28,7 @@ use Rattle.pc_tree.specs.Tree.{conditional, no_stmts, more_stmts, no_branches, m
 use Rattle.pc_tree.specs.Tree.{Item, constant_item, class_item, def_item, Module}
 use Rattle.pc_scope.specs.declared.resolution.Builtin.{Builtin}
 use Rattle.pc_scope.specs.declared.resolution.NameMeaning.{NameMeaning}
-use Rattle.pc_scope.specs.declared.resolution.NameMeaning.TheVariants as res
+use Rattle.pc_scope.specs.declared.resolution.NameMeaning.TheVariants as meaning
 use Rattle.pc_scope.specs.declared.resolution.Owner.{Owner}
 use Rattle.pc_scope.specs.declared.resolution.Owner.TheVariants as owners
 use Rattle.pc_scope.specs.Bindings.{constants_in, classes_in, Body, bodies}
@@ -115,8 +115,8 @@ module _ (m : Module) (known : Known) where
 
 -- there are the constants and classes that a meaning numbers
 abbrev IsBelow : (constants classes : ℕ) → NameMeaning → Type 0
-IsBelow k c (res.Const i) = i < k
-IsBelow k c (res.Class i) = i < c
+IsBelow k c (meaning.Const i) = i < k
+IsBelow k c (meaning.Class i) = i < c
 IsBelow k c r = Unit {0}
 
 moved : (k j c d : ℕ) (r : NameMeaning) → k ≡ j → c ≡ d → IsBelow k c r → IsBelow j d r
@@ -124,47 +124,47 @@ moved k j c d r e f h = subst (λ x. IsBelow j x r) f (subst (λ x. IsBelow x c 
 
 -- a name that items bind first is numbered among them
 bound_below : (k f c : ℕ) (items : List Item) (word : List ℕ) → IsBelow (k + length (constants_in items))
-    (c + length (classes_in items)) (or_meaning (bound_first k f c items word) res.None)
+    (c + length (classes_in items)) (or_meaning (bound_first k f c items word) meaning.None)
 bound_below k f c [] word = tt
 bound_below k f c (constant_item p i ∷ rest) word = go (bytes_eq i.name.text word) (bound_below (suc k) f c rest word)
   where
     go : (b : Test) → IsBelow (suc k + length (constants_in rest)) (c + length (classes_in rest))
-        (or_meaning (bound_first (suc k) f c rest word) res.None)
+        (or_meaning (bound_first (suc k) f c rest word) meaning.None)
         → IsBelow (k + suc (length (constants_in rest))) (c + length (classes_in rest))
-        (or_meaning (if b then Some (res.Const k) else bound_first (suc k) f c rest word) res.None)
+        (or_meaning (if b then Some (meaning.Const k) else bound_first (suc k) f c rest word) meaning.None)
     go true h = omega arith
     go false h = moved (suc k + length (constants_in rest)) (k + suc (length (constants_in rest)))
         (c + length (classes_in rest)) (c + length (classes_in rest))
-        (or_meaning (bound_first (suc k) f c rest word) res.None) (omega arith) refl h
+        (or_meaning (bound_first (suc k) f c rest word) meaning.None) (omega arith) refl h
 bound_below k f c (def_item p i ∷ rest) word = go (bytes_eq i.name.text word) (bound_below k (suc f) c rest word)
   where
     go : (b : Test) → IsBelow (k + length (constants_in rest)) (c + length (classes_in rest))
-        (or_meaning (bound_first k (suc f) c rest word) res.None)
+        (or_meaning (bound_first k (suc f) c rest word) meaning.None)
         → IsBelow (k + length (constants_in rest)) (c + length (classes_in rest))
-        (or_meaning (if b then Some (res.Func f) else bound_first k (suc f) c rest word) res.None)
+        (or_meaning (if b then Some (meaning.Func f) else bound_first k (suc f) c rest word) meaning.None)
     go true h = tt
     go false h = h
 bound_below k f c (class_item p i ∷ rest) word = go (bytes_eq i.name.text word) (bound_below k f (suc c) rest word)
   where
     go : (b : Test) → IsBelow (k + length (constants_in rest)) (suc c + length (classes_in rest))
-        (or_meaning (bound_first k f (suc c) rest word) res.None)
+        (or_meaning (bound_first k f (suc c) rest word) meaning.None)
         → IsBelow (k + length (constants_in rest)) (c + suc (length (classes_in rest)))
-        (or_meaning (if b then Some (res.Class c) else bound_first k f (suc c) rest word) res.None)
+        (or_meaning (if b then Some (meaning.Class c) else bound_first k f (suc c) rest word) meaning.None)
     go true h = omega arith
     go false h = moved (k + length (constants_in rest)) (k + length (constants_in rest))
         (suc c + length (classes_in rest)) (c + suc (length (classes_in rest)))
-        (or_meaning (bound_first k f (suc c) rest word) res.None) refl (omega arith) h
+        (or_meaning (bound_first k f (suc c) rest word) meaning.None) refl (omega arith) h
 
 module_below : (m : Module) (word : List ℕ)
     → IsBelow (length (constants_in m.items)) (length (classes_in m.items)) (resolve_in_module m word)
 module_below m word = go (builtin_of word)
   where
     go : (o : Option Builtin) → IsBelow (length (constants_in m.items)) (length (classes_in m.items))
-        (or_meaning (builtin_meaning o) (or_meaning (bound_first 0 0 0 m.items word) res.None))
+        (or_meaning (builtin_meaning o) (or_meaning (bound_first 0 0 0 m.items word) meaning.None))
     go (Some b) = tt
     go None = moved (0 + length (constants_in m.items)) (length (constants_in m.items))
         (0 + length (classes_in m.items)) (length (classes_in m.items))
-        (or_meaning (bound_first 0 0 0 m.items word) res.None) (omega arith) (omega arith)
+        (or_meaning (bound_first 0 0 0 m.items word) meaning.None) (omega arith) (omega arith)
         (bound_below 0 0 0 m.items word)
 
 numbered_there : {A : Type 0} (xs : List A) (i : ℕ) → i < length xs → IsThere (slice_get xs i)
@@ -174,18 +174,18 @@ numbered_there (x ∷ xs) (suc i) l = numbered_there xs i (omega arith)
 
 early_there : (m : Module) (word : List ℕ) (k c : ℕ) (r : NameMeaning) → IsEarlyMeaning k c r
     → IsBelow (length (constants_in m.items)) (length (classes_in m.items)) r → IsThere (early_of m word r)
-early_there m word k c (res.Func i) h l = refl
-early_there m word k c (res.Const i) h l = there_mapped (λ (x : Name). detail.early_name word x.place)
+early_there m word k c (meaning.Func i) h l = refl
+early_there m word k c (meaning.Const i) h l = there_mapped (λ (x : Name). detail.early_name word x.place)
     (option_map (λ (x : Constant). x.name) (slice_get (constants_in m.items) i))
     (there_mapped (λ (x : Constant). x.name) (slice_get (constants_in m.items) i)
     (numbered_there (constants_in m.items) i l))
-early_there m word k c (res.Class i) h l = there_mapped (λ (x : Name). detail.early_name word x.place)
+early_there m word k c (meaning.Class i) h l = there_mapped (λ (x : Name). detail.early_name word x.place)
     (option_map (λ (x : ClassDef). x.name) (slice_get (classes_in m.items) i))
     (there_mapped (λ (x : ClassDef). x.name) (slice_get (classes_in m.items) i)
     (numbered_there (classes_in m.items) i l))
-early_there m word k c (res.Local i) h l = absurd h
-early_there m word k c (res.Builtin i) h l = absurd h
-early_there m word k c res.None h l = absurd h
+early_there m word k c (meaning.Local i) h l = absurd h
+early_there m word k c (meaning.Builtin i) h l = absurd h
+early_there m word k c meaning.None h l = absurd h
 
 -- a constant that is an item is one of the constants
 constant_among : (items : List Item) (at : ℕ) (first : Place) (c : Constant)

@@ -16,12 +16,12 @@ use Rattle.pc_tree.specs.declared.code.Code.{Code}
 use Rattle.pc_tree.specs.declared.code.Code.TheVariants.{E03, E14, E15, E27}
 use Rattle.pc_tree.specs.Depth.{place_of}
 use Rattle.pc_tree.specs.Stopping.{has_none}
-use Rattle.pc_tree.specs.Tree.{Expr, Exprs, Keywords, name, attribute, no_exprs, more_exprs}
+use Rattle.pc_tree.specs.Tree.{Ann, Expr, Exprs, Keywords, name, attribute, no_exprs, more_exprs}
 use Rattle.pc_tree.specs.Tree.{no_keywords, more_keywords, FuncDef, Module}
 use Rattle.pc_scope.specs.declared.resolution.Builtin.{Builtin}
 use Rattle.pc_scope.specs.declared.resolution.Builtin.TheVariants as builtin
 use Rattle.pc_scope.specs.declared.resolution.NameMeaning.{NameMeaning}
-use Rattle.pc_scope.specs.declared.resolution.NameMeaning.TheVariants as res
+use Rattle.pc_scope.specs.declared.resolution.NameMeaning.TheVariants as meaning
 use Rattle.pc_scope.specs.declared.resolution.Owner.{Owner}
 use Rattle.pc_scope.specs.Bindings.{functions_in}
 use Rattle.pc_scope.specs.Resolution.{is_one_of, resolve}
@@ -60,10 +60,13 @@ use Rattle.pc_detail_rules.specs.Calls.{Called, value_called, class_called, memb
 use Rattle.pc_detail_rules.specs.Calls.{list_called, dict_called, container_called, called_on, function_callees}
 use Rattle.pc_detail_rules.specs.Calls.{builtin_callees, named_callees, callees_of}
 use Rattle.pc_detail_rules.specs.Facts.{Known}
-use Rattle.pc_detail_rules.specs.Sinks.{SinkAt, only_sink, one_sink, takes_into, parameter_sink, sink_of_parameter, positional_in}
+use Rattle.pc_detail_rules.specs.Sinks.{SinkAt, only_sink, one_sink, written_sink, takes_into, parameter_sink}
+use Rattle.pc_detail_rules.specs.Sinks.{sink_of_parameter, positional_in}
 use Rattle.pc_detail_rules.specs.Sinks.{named_in, positional_on, named_on, positional_sinks, named_sinks, item_sinks}
 use Rattle.pc_detail_rules.specs.Sinks.{sought_in, compared_sinks, field_sink, index_in, index_sinks, item_store}
 use Rattle.pc_detail_rules.specs.Sinks.{field_store, index_sink, stored_sink}
+use Rattle.pc_detail_rules.specs.Written.{written_at, annotation_by_name, annotations_of, field_annotation}
+use Rattle.pc_detail_rules.specs.Written.{field_annotations, method_annotations}
 use Rattle.pc_detail_rules.proofs.Explained.Calls.{IsContext, IsObjectTyped}
 use Rattle.pc_detail_rules.proofs.Explained.Lists.{IsThere, find_there, all_left, all_right, all_pick, all_unjoined}
 
@@ -112,11 +115,14 @@ module _ (ss : List SinkAt) where
   abbrev pub AreSunk : Place → List Tree → Type 0
   AreSunk p ts = AllByRecursion (SunkAt p) ts
 
-  pub only_there : (p : Place) (s : Sink Tree) (t : Tree) → Contains ss (only_sink p s) → SunkAt p t
-  only_there p s t c = find_there (takes_into p t) ss (only_sink p s) c (λ i. own_place p i && true)
+  pub only_there : (p : Place) (s : Sink Tree) (t : Tree) (a : Option Ann) → Contains ss (only_sink p s a) → SunkAt p t
+  only_there p s t a c = find_there (takes_into p t) ss (only_sink p s a) c (λ i. own_place p i && true)
+
+  written_there : (p : Place) (s : Sink Tree) (t : Tree) (a : Option Ann) → Contains ss (written_sink p s t a) → SunkAt p t
+  written_there p s t a c = find_there (takes_into p t) ss (written_sink p s t a) c (λ i. own_place p i && tree_same t i)
 
   pub one_there : (p : Place) (s : Sink Tree) (t : Tree) → Contains ss (one_sink p s t) → SunkAt p t
-  one_there p s t c = find_there (takes_into p t) ss (one_sink p s t) c (λ i. own_place p i && tree_same t i)
+  one_there p s t c = written_there p s t None c
 
   pub mapped_there : (p : Place) (s : Sink Tree) (ts : List Tree) → AreIn (map (one_sink p s) ts) → AreSunk p ts
   mapped_there p s [] h = tt
@@ -193,16 +199,16 @@ module _ (ss : List SinkAt) where
 
   -- ---- stores
 
-  field_sunk : (m : Module) (p : Place) (word : List ℕ) (c : ℕ) (f : Option TypedParameter) (x : Option Method)
-      → AreIn (field_sink p (class_text m c) word f) → AreSunk p (store_found f x).stores
-  field_sunk m p word c (Some f) x h = (one_there p (a_field (class_text m c) word) f.type h.0, tt)
-  field_sunk m p word c None (Some x) h = tt
-  field_sunk m p word c None None h = tt
+  field_sunk : (m : Module) (p : Place) (word : List ℕ) (c : ℕ) (a : Option Ann) (f : Option TypedParameter)
+      (x : Option Method) → AreIn (field_sink p (class_text m c) word a f) → AreSunk p (store_found f x).stores
+  field_sunk m p word c a (Some f) x h = (written_there p (a_field (class_text m c) word) f.type a h.0, tt)
+  field_sunk m p word c a None (Some x) h = tt
+  field_sunk m p word c a None None h = tt
 
   attribute_sunk : (m : Module) (p : Place) (word : List ℕ) (u : Tree) → AreIn (field_store m p word u)
       → AreSunk p (store_attribute_member (classes_of m) word u).stores
-  attribute_sunk m p word (Class c) h = field_sunk m p word c (field_by_name (class_facts_at (classes_of m) c).fields word)
-      (method_by_name (class_facts_at (classes_of m) c).methods word) h
+  attribute_sunk m p word (Class c) h = field_sunk m p word c (field_annotation m c word)
+      (field_by_name (class_facts_at (classes_of m) c).fields word) (method_by_name (class_facts_at (classes_of m) c).methods word) h
   attribute_sunk m p word Any h = tt
   attribute_sunk m p word _ h = tt
 
@@ -245,24 +251,25 @@ module _ (ss : List SinkAt) where
   abbrev pub AreTaken : List Called → List Signature → Type 0
   AreTaken cs signatures' = AllByRecursion (Takes cs) signatures'
 
-  parameter_sunk : (p : Place) (what : Callable Tree) (named : Test) (o : Option TypedParameter)
-      → AreIn (sink_of_parameter p what named o) → AreSunk p (parameter_type o)
-  parameter_sunk p what named None h = tt
-  parameter_sunk p what named (Some q) h = (one_there p (parameter_sink what named q) q.type h.0, tt)
+  parameter_sunk : (p : Place) (what : Callable Tree) (named : Test) (a : Option Ann) (o : Option TypedParameter)
+      → AreIn (sink_of_parameter p what named a o) → AreSunk p (parameter_type o)
+  parameter_sunk p what named a None h = tt
+  parameter_sunk p what named a (Some q) h = (written_there p (parameter_sink what named q) q.type a h.0, tt)
 
   position_taken : (p : Place) (k : ℕ) (c : Called) (s t : Signature) → c.signature ≡ Some s
       → s.parameters ≡ t.parameters → AreIn (positional_on p k c) → AreSunk p (parameter_type (slice_get t.parameters k))
   position_taken p k c s t e same h =
       subst (λ (ps : List TypedParameter). AreSunk p (parameter_type (slice_get ps k))) same
-      (parameter_sunk p c.what s.takes_names (slice_get s.parameters k)
-      (subst (λ (o : Option Signature). AreIn (positional_in p k c.what o)) e h))
+      (parameter_sunk p c.what s.takes_names (written_at c.annotations k) (slice_get s.parameters k)
+      (subst (λ (o : Option Signature). AreIn (positional_in p k c.what c.annotations o)) e h))
 
   name_taken : (p : Place) (word : List ℕ) (c : Called) (s t : Signature) → c.signature ≡ Some s
       → s.parameters ≡ t.parameters → AreIn (named_on p word c) → AreSunk p (parameter_type (field_by_name t.parameters word))
   name_taken p word c s t e same h =
       subst (λ (ps : List TypedParameter). AreSunk p (parameter_type (field_by_name ps word))) same
-      (parameter_sunk p c.what s.takes_names (field_by_name s.parameters word)
-      (subst (λ (o : Option Signature). AreIn (named_in p word c.what o)) e h))
+      (parameter_sunk p c.what s.takes_names (annotation_by_name s.parameters c.annotations word)
+      (field_by_name s.parameters word)
+      (subst (λ (o : Option Signature). AreIn (named_in p word c.what c.annotations o)) e h))
 
   positions_sunk : (p : Place) (k : ℕ) (cs : List Called) (ts : List Signature) → AreTaken cs ts
       → AreIn (flat_map (positional_on p k) cs)
@@ -396,12 +403,13 @@ module _ (ss : List SinkAt) where
   AreCalled cs os = AreTaken cs (flat_map (λ (o : CallOffer). o.calls) os)
 
   -- a call of one signature, where a callee has the same parameters
-  pub one_taken : (g : GivenArguments) (s t : Signature) (what : Callable Tree) → t.parameters ≡ s.parameters
-      → AreCalled (record { what = what; signature = Some t } ∷ []) (signature_offer g s ∷ [])
-  one_taken g s t what same = go (is_suited g s)
+  pub one_taken : (g : GivenArguments) (s t : Signature) (what : Callable Tree) (annotations : List (Option Ann))
+      → t.parameters ≡ s.parameters
+      → AreCalled (record { what = what; signature = Some t; annotations = annotations } ∷ []) (signature_offer g s ∷ [])
+  one_taken g s t what annotations same = go (is_suited g s)
     where
       c : Called
-      c = record { what = what; signature = Some t }
+      c = record { what = what; signature = Some t; annotations = annotations }
 
       go : (b : Test) → AreCalled (c ∷ []) ((if b then record {
         at_callee = [];
@@ -421,7 +429,7 @@ module _ (ss : List SinkAt) where
   member_taken : (m : Module) (g : GivenArguments) (f : Option Method) (p : Option TypedParameter)
       → AreCalled (member_called m f p) (class_offers g f p)
   member_taken m g (Some f) p = one_taken g (method_signature f) (method_signature f)
-      (called_function (method_name m f)) refl
+      (called_function (method_name m f)) (method_annotations m f) refl
   member_taken m g None (Some p) = no_calls (flat_map value_called (members p.type)) (members p.type)
   member_taken m g None None = tt
 
@@ -438,9 +446,9 @@ module _ (ss : List SinkAt) where
           else (if b then container_called (ListOf t) word [] ∷ [] else []))
           (if a then appended ∷ [] else (if b then popped ∷ [] else fails_at_callee E15 ∷ []))
       go true b = one_taken g (builtin_signature (t ∷ []) NoneType) (builtin_signature (t ∷ []) Any)
-          (called_member (ListOf t) word) refl
+          (called_member (ListOf t) word) [] refl
       go false true = one_taken g (builtin_signature [] t) (builtin_signature [] Any) (called_member (ListOf t) word)
-          refl
+          [] refl
       go false false = tt
 
   dict_taken : (bases : Bases) (g : GivenArguments) (word : List ℕ) (k v : Tree)
@@ -452,7 +460,7 @@ module _ (ss : List SinkAt) where
 
       go : (b : Test) → AreCalled (if b then container_called (DictOf k v) word (k ∷ []) ∷ [] else [])
           (if b then signature_offer g got ∷ [] else fails_at_callee E15 ∷ [])
-      go true = one_taken g got (builtin_signature (k ∷ []) Any) (called_member (DictOf k v) word) refl
+      go true = one_taken g got (builtin_signature (k ∷ []) Any) (called_member (DictOf k v) word) [] refl
       go false = tt
 
   module _ (m : Module) (ctx : Context) (g : GivenArguments) (word : List ℕ) where
@@ -492,7 +500,7 @@ module _ (ss : List SinkAt) where
       → AreCalled (function_callees m o) (function_offer g (option_map (signature_of m) o) ∷ [])
   function_taken m g None = tt
   function_taken m g (Some f) = one_taken g (signature_of m f) (signature_of m f)
-      (called_function (record { class = None; name = f.name.text })) refl
+      (called_function (record { class = None; name = f.name.text })) (annotations_of (Some f)) refl
 
   own_taken : (cs : List Called) (b : Test) (x : CalleeLabel) → AreCalled cs x.offers
       → AreCalled cs (if b then x else good_callee (fails_at_call E14 ∷ [])).offers
@@ -516,23 +524,23 @@ module _ (ss : List SinkAt) where
     name_taken_by : ctx.functions ≡ signatures_of m → ctx.classes ≡ classes_of m → (env : Env) (here : Tree) (r : NameMeaning)
         → AreCalled (named_callees m g.positional here r) (name_callee ctx env g r).offers
     unfolding signatures_of
-    name_taken_by fs cs env here (res.Func i) =
+    name_taken_by fs cs env here (meaning.Func i) =
         let called = function_callees m (slice_get (functions_in m.items) i) in
         or_early called ctx.in_body (function_offer g (slice_get ctx.functions i))
         (subst (λ (xs : List Signature). AreCalled called (function_offer g (slice_get xs i) ∷ [])) (sym fs)
         (subst (λ (o : Option Signature). AreCalled called (function_offer g o ∷ []))
         (sym (slice_get-map (signature_of m) (functions_in m.items) i))
         (function_taken m g (slice_get (functions_in m.items) i))))
-    name_taken_by fs cs env here (res.Class c) =
+    name_taken_by fs cs env here (meaning.Class c) =
         let called = class_called m c ∷ [] in
         let s = class_signature (classes_of m) c in
         or_early called (nat_lt c ctx.known) (signature_offer g (class_signature ctx.classes c))
         (subst (λ (xs : List facts.ClassFacts). AreCalled called (signature_offer g (class_signature xs c) ∷ [])) (sym cs)
-        (one_taken g s s (called_class (class_text m c)) refl))
-    name_taken_by fs cs env here (res.Builtin b) = built_taken g b (builtin_callees g.positional b)
-    name_taken_by fs cs env here (res.Local x) = no_calls (flat_map value_called (members here)) (members (name_label ctx env (res.Local x)).type)
-    name_taken_by fs cs env here (res.Const i) = no_calls (flat_map value_called (members here)) (members (name_label ctx env (res.Const i)).type)
-    name_taken_by fs cs env here res.None = no_calls (flat_map value_called (members here)) (members (name_label ctx env res.None).type)
+        (one_taken g s s (called_class (class_text m c)) (field_annotations m c s.parameters) refl))
+    name_taken_by fs cs env here (meaning.Builtin b) = built_taken g b (builtin_callees g.positional b)
+    name_taken_by fs cs env here (meaning.Local x) = no_calls (flat_map value_called (members here)) (members (name_label ctx env (meaning.Local x)).type)
+    name_taken_by fs cs env here (meaning.Const i) = no_calls (flat_map value_called (members here)) (members (name_label ctx env (meaning.Const i)).type)
+    name_taken_by fs cs env here meaning.None = no_calls (flat_map value_called (members here)) (members (name_label ctx env meaning.None).type)
 
     other_taken : (called : List Called) (b : Test) (label : Label)
         → AreCalled called (if b then value_callee label else value_callee (in_error E03)).offers

@@ -18,7 +18,7 @@ use Rattle.pc_tree.specs.Tree.{evaluates, while_loop, for_loop, conditional, no_
 use Rattle.pc_tree.specs.Tree.{more_branches, Module}
 use Rattle.pc_scope.specs.declared.resolution.Builtin.TheVariants as builtin
 use Rattle.pc_scope.specs.declared.resolution.NameMeaning.{NameMeaning}
-use Rattle.pc_scope.specs.declared.resolution.NameMeaning.TheVariants as res
+use Rattle.pc_scope.specs.declared.resolution.NameMeaning.TheVariants as meaning
 use Rattle.pc_scope.specs.Bindings.{texts, Body, bodies}
 use Rattle.pc_scope.specs.Expressions.{is_named, is_instance_test, parts_in, parts_in_all, parts_in_keywords, exprs_in}
 use Rattle.pc_scope.specs.Expressions.{exprs_in_all, exprs_in_branches, option_exprs, target_exprs}
@@ -54,7 +54,7 @@ use Rattle.pc_module_rules.proofs.PlainCodes.{all_append, in_both}
 use Rattle.pc_module_rules.proofs.RangeNames.{range_named}
 use Rattle.pc_detail_texts.specs.Details.{Misfit, called_builtin, iterate_range, method_store}
 use Rattle.pc_detail_rules.specs.Calls.{misfit, range_misfit, named_callees}
-use Rattle.pc_detail_rules.specs.Explains.{is_range_call}
+use Rattle.pc_module_rules.specs.TypesOfStatements.{is_range_call}
 use Rattle.pc_detail_rules.specs.Facts.{Known}
 use Rattle.pc_detail_rules.specs.Nodes.{targets_in, targets_of, ann_of_stmt, stmts_in, stmts_in_suite}
 use Rattle.pc_detail_rules.specs.Nodes.{stmts_in_branches}
@@ -71,8 +71,8 @@ use Rattle.pc_detail_rules.proofs.Explained.Lists.{IsThere, there_mapped, all_le
 use Rattle.pc_detail_rules.proofs.Explained.Told.{Asked, IsTold, target_rule, target_told}
 
 -- a name that means `range`
-pub range_is : (r : NameMeaning) → is_range r ≡ true → r ≡ res.Builtin builtin.Range
-range_is (res.Builtin builtin.Range) e = refl
+pub range_is : (r : NameMeaning) → is_range r ≡ true → r ≡ meaning.Builtin builtin.Range
+range_is (meaning.Builtin builtin.Range) e = refl
 range_is _ e = absurd (cc e)
 
 -- a call of `range` that does not suit has a misfit
@@ -151,10 +151,11 @@ module _ (m : Module) (known : Known) (constants : List Tree) (b : Body) (of : C
       wrong_range : is_wrong (range_offers (arguments_given args kws)) ≡ true → RangeGiven E14
       wrong_range w a =
           let g = arguments_given args kws in
-          let is : resolve m b.owner n.text ≡ res.Builtin builtin.Range = in_context.resolves n.text
+          let is : resolve m b.owner n.text ≡ meaning.Builtin builtin.Range = in_context.resolves n.text
           ∙ range_is (Ctx.resolve n.text) means in
           subst (λ (r : NameMeaning). have_misfit g (named_callees m g.positional (known.types n.place) r) ≡ true) (sym is)
-          (sym (one_exact g range_signature (builtin_signature (Int ∷ []) Any) (called_builtin (codes "range")) refl) ∙ w)
+          (sym (one_exact g range_signature (builtin_signature (Int ∷ []) Any) (called_builtin (codes "range")) [] refl)
+          ∙ w)
 
       range_told : (env : Env) (labels : Labels Range) → LawfulRange m Ctx declared env (name n) args kws p labels
           → IsWhole Range → AreTyped (types_of_arguments true Range labels) → Finds Range labels f → Goal
@@ -273,19 +274,19 @@ module _ (m : Module) (known : Known) (constants : List Tree) (b : Body) (of : C
         (labels : Labels e) (flows : FlowLabels) (after : Env) (p : Place)
         → LawfulBinding m Ctx declared env seen n r annotation e labels flows after → IsWhole e
         → AreTyped (types_in true e labels) → IsFlowAt p flows f ⊎ Finds e labels f → Goal
-    binding_told env seen n (res.Local x) annotation e labels flows after p law whole typed h = elim h [
+    binding_told env seen n (meaning.Local x) annotation e labels flows after p law whole typed h = elim h [
       | inl a ↦ no_flow_here (whole_label e labels) (declared_type declared x ∷ []) flows p law.flow a
       | inr y ↦ of_expr env _ e labels law.value whole typed y
     ]
-    binding_told env seen n (res.Const x) annotation e labels flows after p law whole typed h =
+    binding_told env seen n (meaning.Const x) annotation e labels flows after p law whole typed h =
         unbound_told env e labels flows p law.value law.flow whole typed h
-    binding_told env seen n (res.Func x) annotation e labels flows after p law whole typed h =
+    binding_told env seen n (meaning.Func x) annotation e labels flows after p law whole typed h =
         unbound_told env e labels flows p law.value law.flow whole typed h
-    binding_told env seen n (res.Class x) annotation e labels flows after p law whole typed h =
+    binding_told env seen n (meaning.Class x) annotation e labels flows after p law whole typed h =
         unbound_told env e labels flows p law.value law.flow whole typed h
-    binding_told env seen n (res.Builtin x) annotation e labels flows after p law whole typed h =
+    binding_told env seen n (meaning.Builtin x) annotation e labels flows after p law whole typed h =
         unbound_told env e labels flows p law.value law.flow whole typed h
-    binding_told env seen n res.None annotation e labels flows after p law whole typed h =
+    binding_told env seen n meaning.None annotation e labels flows after p law whole typed h =
         unbound_told env e labels flows p law.value law.flow whole typed h
 
     -- ---- targets
@@ -422,14 +423,14 @@ module _ (m : Module) (known : Known) (constants : List Tree) (b : Body) (of : C
 
     annotation_here : (r : NameMeaning) (is_first' : Test) (n : Name) (a : Ann) → IsBound n → IsWholeAnn m known a
         → AnnotationFinds m Ctx r is_first' n a f → Goal
-    annotation_here (res.Local x) false n a bound whole h =
+    annotation_here (meaning.Local x) false n a bound whole h =
         subst (λ (g : Finding). IsTold m known g.place g.code) (sym h) (late n bound)
-    annotation_here (res.Local x) true n a bound whole h = annotation_told m known f asked a whole h
-    annotation_here (res.Const x) is_first' n a bound whole h = annotation_told m known f asked a whole h
-    annotation_here (res.Func x) is_first' n a bound whole h = annotation_told m known f asked a whole h
-    annotation_here (res.Class x) is_first' n a bound whole h = annotation_told m known f asked a whole h
-    annotation_here (res.Builtin x) is_first' n a bound whole h = annotation_told m known f asked a whole h
-    annotation_here res.None is_first' n a bound whole h = annotation_told m known f asked a whole h
+    annotation_here (meaning.Local x) true n a bound whole h = annotation_told m known f asked a whole h
+    annotation_here (meaning.Const x) is_first' n a bound whole h = annotation_told m known f asked a whole h
+    annotation_here (meaning.Func x) is_first' n a bound whole h = annotation_told m known f asked a whole h
+    annotation_here (meaning.Class x) is_first' n a bound whole h = annotation_told m known f asked a whole h
+    annotation_here (meaning.Builtin x) is_first' n a bound whole h = annotation_told m known f asked a whole h
+    annotation_here meaning.None is_first' n a bound whole h = annotation_told m known f asked a whole h
 
     annotated_told : (env : Env) (seen : NamesBound) (p : Place) (n : Name) (a : Ann) (e : Option Expr)
         (labels : OptionLabels e) (flows : FlowLabels) (after : Env)
@@ -445,13 +446,13 @@ module _ (m : Module) (known : Known) (constants : List Tree) (b : Body) (of : C
     target_told_of : (seen : NamesBound) (n : Name) (r : NameMeaning) (head : Env) (item : Label) (flows : FlowLabels)
         (inside : Env) (p : Place) → LawfulTarget m Ctx declared seen n r head item flows inside → IsFlowAt p flows f
         → Goal
-    target_told_of seen n (res.Local x) head item flows inside p law h =
+    target_told_of seen n (meaning.Local x) head item flows inside p law h =
         no_flow_here (clean item.type) (declared_type declared x ∷ []) flows p law.flow h
-    target_told_of seen n (res.Const x) head item flows inside p law h = absurd (no_flows flows p f law.0 h)
-    target_told_of seen n (res.Func x) head item flows inside p law h = absurd (no_flows flows p f law.0 h)
-    target_told_of seen n (res.Class x) head item flows inside p law h = absurd (no_flows flows p f law.0 h)
-    target_told_of seen n (res.Builtin x) head item flows inside p law h = absurd (no_flows flows p f law.0 h)
-    target_told_of seen n res.None head item flows inside p law h = absurd (no_flows flows p f law.0 h)
+    target_told_of seen n (meaning.Const x) head item flows inside p law h = absurd (no_flows flows p f law.0 h)
+    target_told_of seen n (meaning.Func x) head item flows inside p law h = absurd (no_flows flows p f law.0 h)
+    target_told_of seen n (meaning.Class x) head item flows inside p law h = absurd (no_flows flows p f law.0 h)
+    target_told_of seen n (meaning.Builtin x) head item flows inside p law h = absurd (no_flows flows p f law.0 h)
+    target_told_of seen n meaning.None head item flows inside p law h = absurd (no_flows flows p f law.0 h)
 
     -- ---- statements
 

@@ -51,14 +51,14 @@ Opening = (Sign sign.Colon ⟫ Just kind.Newline) ⟫ Just kind.Indent
 -- ---- the module
 
 -- the headers of a module: that of `annotations`, and those of `dataclass` and `Any` if it has them
-abbrev pub Headers : Bool → Bool → Spelling
-Headers dataclass any = Header (codes "__future__") (codes "annotations")
+abbrev pub Imports : Bool → Bool → Spelling
+Imports dataclass any = Header (codes "__future__") (codes "annotations")
     ⟫ OptionalHeader dataclass (codes "dataclasses") (codes "dataclass")
     ⟫ OptionalHeader any (codes "typing") (codes "Any")
 
 -- the headers of a module, and its items so far
 abbrev pub BeforeItems : Top → Spelling
-BeforeItems top = Headers top.imports_dataclass top.imports_any ⟫ SpellsItems top.items
+BeforeItems top = Imports top.imports_dataclass top.imports_any ⟫ SpellsItems top.items
 
 -- the headers read so far are those of the stage, and no item has been read; after the last header there is no
 -- condition
@@ -114,9 +114,9 @@ ParamsOf (of_module top) ps = EachParam ps
 ParamsOf (of_class c ms) ps = Named (codes "self") ⟫ Sign sign.Comma ⟫ EachParam ps
 
 -- whether a function is in a class
-abbrev pub is_method : FunctionOwner → Bool
-is_method (of_module top) = false
-is_method (of_class c ms) = true
+abbrev pub is_in_class : FunctionOwner → Bool
+is_in_class (of_module top) = false
+is_in_class (of_class c ms) = true
 
 -- the tokens before a parameter: all up to the `(`, and the parameters so far, including `self`, each followed by a
 -- comma
@@ -130,7 +130,7 @@ SelfRead d (of_class c ms) = BeforeOwner d.owner ⟫ (DefName d ⟫ Named (codes
 
 -- the tokens up to the `)` after the parameters of a function
 abbrev pub ParamsRead : DefStart → List Param → Spelling
-ParamsRead d ps = BeforeOwner d.owner ⟫ (DefName d ⟫ (Parameters (is_method d.owner) ps ⟫ Sign sign.RightParenthesis))
+ParamsRead d ps = BeforeOwner d.owner ⟫ (DefName d ⟫ (Parameters (is_in_class d.owner) ps ⟫ Sign sign.RightParenthesis))
 
 -- the tokens before the first statement of a function
 abbrev pub BeforeBody : DefHead → Spelling

@@ -15,7 +15,7 @@ use Rattle.pc_tree.specs.Stopping.{bound_by, bound_by_stmt}
 use Rattle.pc_tree.specs.Depth.{place_of}
 use Rattle.pc_scope.specs.declared.resolution.Owner.{Owner}
 use Rattle.pc_scope.specs.declared.resolution.NameMeaning.{NameMeaning}
-use Rattle.pc_scope.specs.declared.resolution.NameMeaning.TheVariants as res
+use Rattle.pc_scope.specs.declared.resolution.NameMeaning.TheVariants as meaning
 use Rattle.pc_scope.specs.Resolution.{locals}
 use Rattle.pc_types.specs.Tree.{Tree, Any, NoneType}
 use Rattle.pc_types.specs.Below.{Bases}
@@ -79,7 +79,7 @@ pub record BodyContext : Type 0 where
 pub record Walk : Type 0 where
   pub table : DeclaredTypes
   pub env : Option Env
-  pub broken : Option Env
+  pub exit_env : Option Env
   pub found : List Note
 
 -- the result of a binding: declared types, the environment after it, and the notes
@@ -98,7 +98,7 @@ local_note (Some d) now p = named p d now ∷ []
 -- the note of a bound name at its place, if it means a local: its declared type, and, if it has a value, its current
 -- type
 abbrev pub name_note : (valued : Test) → DeclaredTypes → Env → NameMeaning → Place → List Note
-name_note valued table env (res.Local x) p = local_note (bound_type table x) (if valued then current env x else None) p
+name_note valued table env (meaning.Local x) p = local_note (bound_type table x) (if valued then current env x else None) p
 name_note valued table env r p = []
 
 -- notes with that of a bound name after them, if types are kept
@@ -121,7 +121,7 @@ pub record BranchesResult : Type 0 where
   pub table : DeclaredTypes
   pub last : Env
   pub ways : Option Env
-  pub broken : Option Env
+  pub exit_env : Option Env
   pub found : List Note
 
 -- an environment joined onto the exit environment of a loop, if there is a loop
@@ -153,7 +153,7 @@ module _ (context : BodyContext) where
 
   -- a table with Any for a local first bound in unreachable code
   abbrev pub unreached_name : DeclaredTypes → NameMeaning → DeclaredTypes
-  unreached_name table (res.Local x) = with_declared (bound_type table x) table x Any
+  unreached_name table (meaning.Local x) = with_declared (bound_type table x) table x Any
   unreached_name table r = table
 
   -- a table with Any for each of the locals first bound in unreachable code
@@ -176,7 +176,7 @@ module _ (context : BodyContext) where
 
   -- the result of binding a value to a name, with its annotation unless ignored; only a local is bound
   abbrev pub bind_value : DeclaredTypes → Env → NameMeaning → (annotation : Option Tree) → Expr → List Note → BindingResult
-  bind_value table env (res.Local x) annotation e found =
+  bind_value table env (meaning.Local x) annotation e found =
       let want = known_declared (bound_type table x) annotation in
       bind_label table env x want (place_of e) (label_in (standing_here table env) want e)
       (found ++ finds_in (standing_here table env) want e)
@@ -192,7 +192,7 @@ module _ (context : BodyContext) where
 
   -- the table after a name annotated without a value
   abbrev pub declared_alone : DeclaredTypes → NameMeaning → Tree → DeclaredTypes
-  declared_alone table (res.Local x) t = with_declared (bound_type table x) table x t
+  declared_alone table (meaning.Local x) t = with_declared (bound_type table x) table x t
   declared_alone table r t = table
 
   -- the notes at an annotation: E24 if the local is bound already, else those in the annotation
@@ -202,7 +202,7 @@ module _ (context : BodyContext) where
 
   -- the declared type of the local that a name means, if it is a bound one
   abbrev pub bound_name : DeclaredTypes → NameMeaning → Option Tree
-  bound_name table (res.Local x) = bound_type table x
+  bound_name table (meaning.Local x) = bound_type table x
   bound_name table r = None
 
   -- the result of an annotated name with this meaning, with or without a value
@@ -284,7 +284,7 @@ module _ (context : BodyContext) where
 
   -- the result of binding the target of a `for` to an item of this type, in the environment at the head
   abbrev pub bind_item : DeclaredTypes → (head : Env) → NameMeaning → Place → Tree → List Note → BindingResult
-  bind_item table head (res.Local x) p t found = bind_label table head x (bound_type table x) p (clean t) found
+  bind_item table head (meaning.Local x) p t found = bind_label table head x (bound_type table x) p (clean t) found
   bind_item table head r p t found = record { table = table; env = head; found = found }
 
   -- the environment at the head of a loop that binds these names
@@ -306,102 +306,107 @@ module _ (context : BodyContext) where
       (context.returned ∷ []))
 
   -- the state after a bound name
-  abbrev pub behind_binding : (broken : Option Env) → BindingResult → Walk
-  behind_binding broken b = record { table = b.table; env = Some b.env; broken = broken; found = b.found }
+  abbrev pub behind_binding : (exit_env : Option Env) → BindingResult → Walk
+  behind_binding exit_env b = record { table = b.table; env = Some b.env; exit_env = exit_env; found = b.found }
 
   -- the state at the start of the body of a `for`, whose exit environment is the head
   abbrev pub inside_for : (head : Env) → BindingResult → Walk
-  inside_for head b = record { table = b.table; env = Some b.env; broken = Some head; found = b.found }
+  inside_for head b = record { table = b.table; env = Some b.env; exit_env = Some head; found = b.found }
 
   -- the state after a loop: its exit environment joined with each `break`; the breaks of an enclosing loop are as
   -- before
-  abbrev pub behind_loop : (broken : Option Env) → Walk → Walk
-  behind_loop broken body = record { table = body.table; env = body.broken; broken = broken; found = body.found }
+  abbrev pub behind_loop : (exit_env : Option Env) → Walk → Walk
+  behind_loop exit_env body = record {
+    table = body.table;
+    env = body.exit_env;
+    exit_env = exit_env;
+    found = body.found;
+  }
 
   -- the state after an `if`: the join of the environments at the ends of its branches and of `else`
   abbrev pub behind_branches : (ways : Option Env) → Walk → Walk
   behind_branches ways last = record {
     table = last.table;
     env = with_way context.context.bases last.table ways last.env;
-    broken = last.broken;
+    exit_env = last.exit_env;
     found = last.found;
   }
 
   -- the state after a statement, after a suite, and after branches
   abbrev mutual
-    pub step : DeclaredTypes → (env : Option Env) → (broken : Option Env) → List Note → Stmt → Walk
+    pub step : DeclaredTypes → (env : Option Env) → (exit_env : Option Env) → List Note → Stmt → Walk
     -- unreachable: nothing is found, and locals first bound here have Any
-    step table None broken found s = record {
+    step table None exit_env found s = record {
       table = unreached_names table (bound_by_stmt s);
       env = None;
-      broken = broken;
+      exit_env = exit_env;
       found = found;
     }
-    step table (Some env) broken found (pass p) = record {
+    step table (Some env) exit_env found (pass p) = record {
       table = table;
       env = Some env;
-      broken = broken;
+      exit_env = exit_env;
       found = found;
     }
-    step table (Some env) broken found (breaks p) = record {
+    step table (Some env) exit_env found (breaks p) = record {
       table = table;
       env = None;
-      broken = join_onto_way context.context.bases table broken env;
+      exit_env = join_onto_way context.context.bases table exit_env env;
       found = found;
     }
-    step table (Some env) broken found (continues p) = record {
+    step table (Some env) exit_env found (continues p) = record {
       table = table;
       env = None;
-      broken = broken;
+      exit_env = exit_env;
       found = found;
     }
-    step table (Some env) broken found (returns p e) = record {
+    step table (Some env) exit_env found (returns p e) = record {
       table = table;
       env = None;
-      broken = broken;
+      exit_env = exit_env;
       found = found ++ return_finds (standing_here table env) p e;
     }
-    step table (Some env) broken found (asserts p c e) = record {
+    step table (Some env) exit_env found (asserts p c e) = record {
       table = table;
       env = Some (narrowed_at table true c env);
-      broken = broken;
+      exit_env = exit_env;
       found = (found ++ finds_in (standing_here table env) None c)
           ++ option_finds (standing_here table (narrowed_at table false c env)) None e;
     }
-    step table (Some env) broken found (annotated p n a e) =
-        behind_binding broken (bind_annotated table env n a e found)
-    step table (Some env) broken found (assigns p t e) = behind_binding broken (assign_target table env t e found)
-    step table (Some env) broken found (evaluates p e) = record {
+    step table (Some env) exit_env found (annotated p n a e) =
+        behind_binding exit_env (bind_annotated table env n a e found)
+    step table (Some env) exit_env found (assigns p t e) = behind_binding exit_env (assign_target table env t e found)
+    step table (Some env) exit_env found (evaluates p e) = record {
       table = table;
       env = Some env;
-      broken = broken;
+      exit_env = exit_env;
       found = found ++ finds_in (standing_here table env) None e;
     }
-    step table (Some env) broken found (while_loop p c b) =
+    step table (Some env) exit_env found (while_loop p c b) =
         let head = head_at table (bound_by b) env in
-        behind_loop broken (walk_suite (record {
+        behind_loop exit_env (walk_suite (record {
           table = table;
           env = Some (narrowed_at table true c head);
-          broken = Some (narrowed_at table false c head);
+          exit_env = Some (narrowed_at table false c head);
           found = found ++ finds_in (standing_here table head) None c;
         }) b)
-    step table (Some env) broken found (for_loop p n e b) =
+    step table (Some env) exit_env found (for_loop p n e b) =
         let head = head_at table (n ∷ bound_by b) env in
         let item = item_label_of (standing_here table env) e in
-        behind_loop broken (walk_suite
+        behind_loop exit_env (walk_suite
         (inside_for head (with_note true (context.context.resolve n.text) n.place
         (bind_item table head (context.context.resolve n.text) (place_of e) item.type
         ((found ++ iterable_finds (standing_here table env) e) ++ codes_at (place_of e) item.codes)))) b)
-    step table (Some env) broken found (conditional p bs o) =
-        let fork = walk_branches
-        (record { table = table; last = env; ways = None; broken = broken; found = found }) bs in
-        behind_branches fork.ways
-        (walk_suite (record { table = fork.table; env = Some fork.last; broken = fork.broken; found = fork.found })
+    step table (Some env) exit_env found (conditional p bs o) =
+        let if_state = walk_branches
+        (record { table = table; last = env; ways = None; exit_env = exit_env; found = found }) bs in
+        behind_branches if_state.ways
+        (walk_suite (record { table = if_state.table; env = Some if_state.last; exit_env = if_state.exit_env; found = if_state.found })
         o)
 
     pub walk_suite : Walk → Stmts → Walk
     walk_suite w no_stmts = w
-    walk_suite w (more_stmts s rest) = walk_suite (step w.table w.env w.broken w.found s) rest
+    walk_suite w (more_stmts s rest) = walk_suite (step w.table w.env w.exit_env w.found s) rest
 
     pub walk_branches : BranchesResult → Branches → BranchesResult
     walk_branches w no_branches = w
@@ -409,14 +414,14 @@ module _ (context : BodyContext) where
         let body = walk_suite (record {
           table = w.table;
           env = Some (narrowed_at w.table true c w.last);
-          broken = w.broken;
+          exit_env = w.exit_env;
           found = w.found ++ finds_in (standing_here w.table w.last) None c;
         }) b in
         walk_branches (record {
           table = body.table;
           last = narrowed_at w.table false c w.last;
           ways = with_way context.context.bases body.table w.ways body.env;
-          broken = body.broken;
+          exit_env = body.exit_env;
           found = body.found;
         }) rest
 
@@ -429,7 +434,7 @@ enter_local (Some d) table env x t = (table, env)
 enter_local None table env x t = (slice_set table x (Some t), assign env x t)
 
 abbrev pub enter_name : DeclaredTypes → Env → NameMeaning → Tree → DeclaredTypes × Env
-enter_name table env (res.Local x) t = enter_local (bound_type table x) table env x t
+enter_name table env (meaning.Local x) t = enter_local (bound_type table x) table env x t
 enter_name table env r t = (table, env)
 
 abbrev pub enter_parameters : (List ℕ → NameMeaning) → DeclaredTypes → Env → List TypedParameter → DeclaredTypes × Env
@@ -459,7 +464,7 @@ walk_body keeps m constants owner f found =
     let context = body_context_of keeps m constants owner f in
     let start = enter_parameters context.context.resolve (none_assigned (length (locals owner f)))
     (none_assigned (length (locals owner f))) (entry_parameters m owner f) in
-    walk_suite context (record { table = start.0; env = Some start.1; broken = None; found = found }) f.body
+    walk_suite context (record { table = start.0; env = Some start.1; exit_env = None; found = found }) f.body
 
 -- notes, followed by those in the body of a function, and E21 at its name
 abbrev pub function_finds : (keeps : Test) → Module → (constants : List Tree) → Owner → FuncDef → List Note → List Note

@@ -9,7 +9,7 @@ use Rattle.pc_scope.specs.Bindings.{texts}
 use Rattle.pc_scope.specs.Reach.{completes, completes_all, some_completes}
 use Rattle.pc_scope.specs.Resolution.{is_one_of}
 use Rattle.pc_scope.specs.declared.resolution.Owner.{Owner}
-use Rattle.pc_scope.specs.declared.resolution.NameMeaning.TheVariants as res
+use Rattle.pc_scope.specs.declared.resolution.NameMeaning.TheVariants as meaning
 use Rattle.pc_types.specs.Tree.{Tree}
 use Rattle.pc_types.specs.WellFormed.{IsWellFormed}
 use Rattle.pc_class.specs.Bases.{bases_of}
@@ -26,8 +26,8 @@ use Rattle.pc_module_rules.specs.Modules.{FunctionLabels, LawfulFunction, Member
 
 -- names mean locals with numbers below a count, and no two names mean the same one
 pub record NumberedLocals (ctx : Context) (count : ℕ) : Type 0 where
-  pub below : (word : List ℕ) (x : ℕ) → ctx.resolve word ≡ res.Local x → x < count
-  pub apart : (a b : List ℕ) (x : ℕ) → ctx.resolve a ≡ res.Local x → ctx.resolve b ≡ res.Local x → a ≡ b
+  pub below : (word : List ℕ) (x : ℕ) → ctx.resolve word ≡ meaning.Local x → x < count
+  pub apart : (a b : List ℕ) (x : ℕ) → ctx.resolve a ≡ meaning.Local x → ctx.resolve b ≡ meaning.Local x → a ≡ b
 
 -- the surroundings of statements: a module, a context with well-formed types, and the number of locals
 pub record Surroundings : Type 0 where
@@ -38,31 +38,31 @@ pub record Surroundings : Type 0 where
   pub locals : NumberedLocals context count
 
 -- a table with a well-formed declared type for each local
-pub record IsDeclaredTable (setting : Surroundings) (declared : List Tree) : Type 0 where
-  pub long : length declared ≡ setting.count
-  pub well_formed : AreWellFormed setting.context.bases declared
+pub record IsDeclaredTable (around : Surroundings) (declared : List Tree) : Type 0 where
+  pub long : length declared ≡ around.count
+  pub well_formed : AreWellFormed around.context.bases declared
 
 -- two tables agree on some names: the locals that they mean have the same declared types
 abbrev pub Agree : Context → (declared others : List Tree) → NamesBound → Type 0
-Agree ctx declared others seen = (word : List ℕ) (x : ℕ) → is_one_of word seen ≡ true → ctx.resolve word ≡ res.Local x
+Agree ctx declared others seen = (word : List ℕ) (x : ℕ) → is_one_of word seen ≡ true → ctx.resolve word ≡ meaning.Local x
     → declared_type declared x ≡ declared_type others x
 
 -- an environment depends only on the names bound so far: its types are well-formed, and it assigns only locals whose
 -- declared types are fixed by those names
-pub record GoesByNames (setting : Surroundings) (declared : List Tree) (seen : NamesBound) (env : Env) : Type 0 where
-  pub well_formed : IsWellFormedEnv setting.context.bases env
-  pub same : (others : List Tree) → IsDeclaredTable setting others → Agree setting.context declared others seen
+pub record GoesByNames (around : Surroundings) (declared : List Tree) (seen : NamesBound) (env : Env) : Type 0 where
+  pub well_formed : IsWellFormedEnv around.context.bases env
+  pub same : (others : List Tree) → IsDeclaredTable around others → Agree around.context declared others seen
       → SameWhere declared others env
 
 -- each of several environments depends only on the names bound so far
-abbrev pub SettledAll : Surroundings → List Tree → NamesBound → List Env → Type 0
-SettledAll setting declared seen [] = Unit {0}
-SettledAll setting declared seen (e ∷ es) = GoesByNames setting declared seen e × SettledAll setting declared seen es
+abbrev pub AllGoByNames : Surroundings → List Tree → NamesBound → List Env → Type 0
+AllGoByNames around declared seen [] = Unit {0}
+AllGoByNames around declared seen (e ∷ es) = GoesByNames around declared seen e × AllGoByNames around declared seen es
 
 -- an environment, if there is one, depends only on the names bound so far
-abbrev pub OutSettled : Surroundings → List Tree → NamesBound → Option Env → Type 0
-OutSettled setting declared seen None = Unit {0}
-OutSettled setting declared seen (Some env) = GoesByNames setting declared seen env
+abbrev pub OutGoesByNames : Surroundings → List Tree → NamesBound → Option Env → Type 0
+OutGoesByNames around declared seen None = Unit {0}
+OutGoesByNames around declared seen (Some env) = GoesByNames around declared seen env
 
 -- whether some branch can complete
 abbrev pub any_way : List Env → Test
@@ -73,65 +73,65 @@ any_way (e ∷ es) = true
 -- those names, labels, and the environment after it, which depend only on the names bound by then; the environment
 -- after it exists exactly if the statement can complete; and the labels are lawful with every table that agrees on the
 -- names bound by then
-pub record StmtLabelled (setting : Surroundings) (returned : Tree) (declared : List Tree) (seen : NamesBound)
+pub record StmtLabelled (around : Surroundings) (returned : Tree) (declared : List Tree) (seen : NamesBound)
     (env : Env) (s : Stmt) : Type 0 where
   pub table : List Tree
-  pub is_table : IsDeclaredTable setting table
-  pub same : Agree setting.context declared table seen
+  pub is_table : IsDeclaredTable around table
+  pub same : Agree around.context declared table seen
   pub labels : StmtLabels s
   pub out : Option Env
-  pub ends : OutSettled setting table (texts (bound_by_stmt s) ++ seen) out
-  pub broken : SettledAll setting table (texts (bound_by_stmt s) ++ seen) (breaks_in s labels)
+  pub ends : OutGoesByNames around table (texts (bound_by_stmt s) ++ seen) out
+  pub at_breaks : AllGoByNames around table (texts (bound_by_stmt s) ++ seen) (breaks_in s labels)
   pub reaches : is_some out ≡ completes s
-  pub lawful : (others : List Tree) → IsDeclaredTable setting others
-      → Agree setting.context table others (texts (bound_by_stmt s) ++ seen)
-      → LawfulStmt setting.whole setting.context others returned seen env s labels out
+  pub lawful : (others : List Tree) → IsDeclaredTable around others
+      → Agree around.context table others (texts (bound_by_stmt s) ++ seen)
+      → LawfulStmt around.whole around.context others returned seen env s labels out
 
 -- a suite is labelled, as a statement is
-pub record SuiteLabelled (setting : Surroundings) (returned : Tree) (declared : List Tree) (seen : NamesBound)
+pub record SuiteLabelled (around : Surroundings) (returned : Tree) (declared : List Tree) (seen : NamesBound)
     (env : Env) (b : Stmts) : Type 0 where
   pub table : List Tree
-  pub is_table : IsDeclaredTable setting table
-  pub same : Agree setting.context declared table seen
+  pub is_table : IsDeclaredTable around table
+  pub same : Agree around.context declared table seen
   pub labels : SuiteLabels b
   pub out : Option Env
-  pub ends : OutSettled setting table (texts (bound_by b) ++ seen) out
-  pub broken : SettledAll setting table (texts (bound_by b) ++ seen) (breaks_in_suite b labels)
+  pub ends : OutGoesByNames around table (texts (bound_by b) ++ seen) out
+  pub at_breaks : AllGoByNames around table (texts (bound_by b) ++ seen) (breaks_in_suite b labels)
   pub reaches : is_some out ≡ completes_all b
-  pub lawful : (others : List Tree) → IsDeclaredTable setting others
-      → Agree setting.context table others (texts (bound_by b) ++ seen)
-      → LawfulSuite setting.whole setting.context others returned seen env b labels out
+  pub lawful : (others : List Tree) → IsDeclaredTable around others
+      → Agree around.context table others (texts (bound_by b) ++ seen)
+      → LawfulSuite around.whole around.context others returned seen env b labels out
 
 -- the branches of an `if` are labelled, with the environments at their ends and the one after all conditions are false
-pub record BranchesLabelled (setting : Surroundings) (returned : Tree) (declared : List Tree) (seen : NamesBound)
+pub record BranchesLabelled (around : Surroundings) (returned : Tree) (declared : List Tree) (seen : NamesBound)
     (env : Env) (bs : Branches) : Type 0 where
   pub table : List Tree
-  pub is_table : IsDeclaredTable setting table
-  pub same : Agree setting.context declared table seen
+  pub is_table : IsDeclaredTable around table
+  pub same : Agree around.context declared table seen
   pub labels : BranchesLabels bs
   pub last : Env
-  pub ends : GoesByNames setting table (texts (bound_by_branches bs) ++ seen) last
-  pub broken : SettledAll setting table (texts (bound_by_branches bs) ++ seen) (breaks_in_branches bs labels)
-  pub ways : SettledAll setting table (texts (bound_by_branches bs) ++ seen) (ways_in bs labels)
+  pub ends : GoesByNames around table (texts (bound_by_branches bs) ++ seen) last
+  pub at_breaks : AllGoByNames around table (texts (bound_by_branches bs) ++ seen) (breaks_in_branches bs labels)
+  pub ways : AllGoByNames around table (texts (bound_by_branches bs) ++ seen) (ways_in bs labels)
   pub reaches : any_way (ways_in bs labels) ≡ some_completes bs
-  pub lawful : (others : List Tree) → IsDeclaredTable setting others
-      → Agree setting.context table others (texts (bound_by_branches bs) ++ seen)
-      → LawfulBranches setting.whole setting.context others returned seen env bs labels last
+  pub lawful : (others : List Tree) → IsDeclaredTable around others
+      → Agree around.context table others (texts (bound_by_branches bs) ++ seen)
+      → LawfulBranches around.whole around.context others returned seen env bs labels last
 
 -- the law that each statement is labelled, from a table and an environment that depend only on the names bound so far,
 -- in a function that returns a well-formed type
 abbrev pub StatementsAreLabelled : Type 0
 StatementsAreLabelled =
-    (setting : Surroundings) (returned : Tree) → IsWellFormed setting.context.bases returned
-    → (declared : List Tree) (seen : NamesBound) (env : Env) → IsDeclaredTable setting declared
-    → GoesByNames setting declared seen env → (s : Stmt) → StmtLabelled setting returned declared seen env s
+    (around : Surroundings) (returned : Tree) → IsWellFormed around.context.bases returned
+    → (declared : List Tree) (seen : NamesBound) (env : Env) → IsDeclaredTable around declared
+    → GoesByNames around declared seen env → (s : Stmt) → StmtLabelled around returned declared seen env s
 
 -- the law that each suite is labelled, from such a table and environment, in a function that returns a well-formed type
 abbrev pub SuitesAreLabelled : Type 0
 SuitesAreLabelled =
-    (setting : Surroundings) (returned : Tree) → IsWellFormed setting.context.bases returned
-    → (declared : List Tree) (seen : NamesBound) (env : Env) → IsDeclaredTable setting declared
-    → GoesByNames setting declared seen env → (b : Stmts) → SuiteLabelled setting returned declared seen env b
+    (around : Surroundings) (returned : Tree) → IsWellFormed around.context.bases returned
+    → (declared : List Tree) (seen : NamesBound) (env : Env) → IsDeclaredTable around declared
+    → GoesByNames around declared seen env → (b : Stmts) → SuiteLabelled around returned declared seen env b
 
 -- a function has lawful labels, with these types of constants
 pub record FunctionLabelled (m : Module) (constants : List Tree) (owner : Owner) (f : FuncDef) : Type 0 where

@@ -6,7 +6,7 @@ use Rattle.pc_tree.specs.declared.code.Finding.{Finding}
 use Rattle.pc_tree.specs.Tree.{Stmt, Stmts, FuncDef, Module}
 use Rattle.pc_tree.specs.Stopping.{bound_by, bound_by_stmt}
 use Rattle.pc_scope.specs.declared.resolution.Owner.{Owner}
-use Rattle.pc_scope.specs.declared.resolution.NameMeaning.TheVariants as res
+use Rattle.pc_scope.specs.declared.resolution.NameMeaning.TheVariants as meaning
 use Rattle.pc_scope.specs.Bindings.{texts}
 use Rattle.pc_scope.specs.Resolution.{is_one_of, locals}
 use Rattle.pc_types.specs.Tree.{Tree}
@@ -29,36 +29,36 @@ use Rattle.pc_module_rules.specs.Computed.Statements.{function_finds}
 
 -- the body context of a function that returns this type
 abbrev pub body_context_in : Surroundings → (returned : Tree) → BodyContext
-body_context_in setting returned = record {
-  whole = setting.whole;
-  context = setting.context;
+body_context_in around returned = record {
+  whole = around.whole;
+  context = around.context;
   returned = returned;
   keeps = false;
 }
 
 -- the table of a walk fits declared types, after the names bound so far: each local that one of them means has its
 -- declared type there, and no other local has one
-pub record TableFits (setting : Surroundings) (declared : List Tree) (seen : NamesBound) (table : DeclaredTypes) : Type 0 where
-  pub long : length table ≡ setting.count
-  pub well_formed : IsWellFormedEnv setting.context.bases table
-  pub bound : (word : List ℕ) (x : ℕ) → is_one_of word seen ≡ true → setting.context.resolve word ≡ res.Local x
+pub record TableFits (around : Surroundings) (declared : List Tree) (seen : NamesBound) (table : DeclaredTypes) : Type 0 where
+  pub long : length table ≡ around.count
+  pub well_formed : IsWellFormedEnv around.context.bases table
+  pub bound : (word : List ℕ) (x : ℕ) → is_one_of word seen ≡ true → around.context.resolve word ≡ meaning.Local x
       → bound_type table x ≡ Some (declared_type declared x)
-  pub unbound : (word : List ℕ) (x : ℕ) → is_one_of word seen ≡ false → setting.context.resolve word ≡ res.Local x
+  pub unbound : (word : List ℕ) (x : ℕ) → is_one_of word seen ≡ false → around.context.resolve word ≡ meaning.Local x
       → bound_type table x ≡ None
 
 -- an environment fits the table of a walk and declared types: they agree on each local that it assigns, and its types
 -- are well-formed
-pub record EnvFits (setting : Surroundings) (declared : List Tree) (table : DeclaredTypes) (env : Env) : Type 0 where
+pub record EnvFits (around : Surroundings) (declared : List Tree) (table : DeclaredTypes) (env : Env) : Type 0 where
   pub same : SameWhere declared (type_table table) env
-  pub well_formed : IsWellFormedEnv setting.context.bases env
+  pub well_formed : IsWellFormedEnv around.context.bases env
 
 -- an environment, if there is one, fits the table of a walk and declared types
 abbrev pub OutFits : Surroundings → List Tree → DeclaredTypes → Option Env → Type 0
-OutFits setting declared table None = Unit {0}
-OutFits setting declared table (Some env) = EnvFits setting declared table env
+OutFits around declared table None = Unit {0}
+OutFits around declared table (Some env) = EnvFits around declared table env
 
 -- the exit environment of a loop, if there is a loop, joined with the environments at several `break`s
-abbrev pub with_breaks : Bases → (declared : List Tree) → (broken : Option Env) → List Env → Option Env
+abbrev pub with_breaks : Bases → (declared : List Tree) → (exit_env : Option Env) → List Env → Option Env
 with_breaks bases declared None envs = None
 with_breaks bases declared (Some way) envs = Some (join_envs_onto bases declared way envs)
 
@@ -73,41 +73,43 @@ Lists notes Says = (f : Finding) → Contains (findings_of notes) f ↔ (Says f 
 
 -- a walk agrees with labels: its table fits after these names, its environment is this one, these `break`s are joined,
 -- and exactly these findings were added; and what fitted the table before fits the one after
-pub record WalkSays (setting : Surroundings) (declared : List Tree) (seen : NamesBound) (table : DeclaredTypes)
-    (broken : Option Env) (found : List Note) (w : Walk) (out : Option Env) (breaks : List Env)
+pub record WalkSays (around : Surroundings) (declared : List Tree) (seen : NamesBound) (table : DeclaredTypes)
+    (exit_env : Option Env) (found : List Note) (w : Walk) (out : Option Env) (breaks : List Env)
     (Says : Finding → Type 0) : Type 0 where
-  pub fits : TableFits setting declared seen w.table
-  pub grows : (env : Env) → EnvFits setting declared table env → EnvFits setting declared w.table env
+  pub fits : TableFits around declared seen w.table
+  pub grows : (env : Env) → EnvFits around declared table env → EnvFits around declared w.table env
   pub env_is : w.env ≡ out
-  pub env_fits : OutFits setting declared w.table out
-  pub broken_is : w.broken ≡ with_breaks setting.context.bases declared broken breaks
-  pub broken_fits : OutFits setting declared w.table w.broken
+  pub env_fits : OutFits around declared w.table out
+  pub exit_env_is : w.exit_env ≡ with_breaks around.context.bases declared exit_env breaks
+  pub exit_env_fits : OutFits around declared w.table w.exit_env
   pub found_is : Adds found w.found Says
 
 -- the law that a walk over a statement agrees with any lawful labels of it
 abbrev pub WalksOfStatementsSayWhatLabelsSay : Type 0
 WalksOfStatementsSayWhatLabelsSay =
-    (setting : Surroundings) (returned : Tree) → IsWellFormed setting.context.bases returned →
-    (declared : List Tree) (seen : NamesBound) (table : DeclaredTypes) (env : Env) (broken : Option Env) (found : List Note) →
-    TableFits setting declared seen table → EnvFits setting declared table env → OutFits setting declared table broken →
+    (around : Surroundings) (returned : Tree) → IsWellFormed around.context.bases returned →
+    (declared : List Tree) (seen : NamesBound) (table : DeclaredTypes) (env : Env) (exit_env : Option Env)
+    (found : List Note) →
+    TableFits around declared seen table → EnvFits around declared table env → OutFits around declared table exit_env →
     (s : Stmt) (labels : StmtLabels s) (out : Option Env)
-    → LawfulStmt setting.whole setting.context declared returned seen env s labels out →
-    WalkSays setting declared (texts (bound_by_stmt s) ++ seen) table broken found
-    (step (body_context_in setting returned) table (Some env) broken found s) out (breaks_in s labels)
-    (StmtFinds setting.whole setting.context seen s labels)
+    → LawfulStmt around.whole around.context declared returned seen env s labels out →
+    WalkSays around declared (texts (bound_by_stmt s) ++ seen) table exit_env found
+    (step (body_context_in around returned) table (Some env) exit_env found s) out (breaks_in s labels)
+    (StmtFinds around.whole around.context seen s labels)
 
 -- the law that a walk over a suite agrees with any lawful labels of it
 abbrev pub WalksOfSuitesSayWhatLabelsSay : Type 0
 WalksOfSuitesSayWhatLabelsSay =
-    (setting : Surroundings) (returned : Tree) → IsWellFormed setting.context.bases returned →
-    (declared : List Tree) (seen : NamesBound) (table : DeclaredTypes) (env : Env) (broken : Option Env) (found : List Note) →
-    TableFits setting declared seen table → EnvFits setting declared table env → OutFits setting declared table broken →
+    (around : Surroundings) (returned : Tree) → IsWellFormed around.context.bases returned →
+    (declared : List Tree) (seen : NamesBound) (table : DeclaredTypes) (env : Env) (exit_env : Option Env)
+    (found : List Note) →
+    TableFits around declared seen table → EnvFits around declared table env → OutFits around declared table exit_env →
     (b : Stmts) (labels : SuiteLabels b) (out : Option Env)
-    → LawfulSuite setting.whole setting.context declared returned seen env b labels out →
-    WalkSays setting declared (texts (bound_by b) ++ seen) table broken found
-    (walk_suite (body_context_in setting returned)
-    (record { table = table; env = Some env; broken = broken; found = found }) b) out (breaks_in_suite b labels)
-    (SuiteFinds setting.whole setting.context seen b labels)
+    → LawfulSuite around.whole around.context declared returned seen env b labels out →
+    WalkSays around declared (texts (bound_by b) ++ seen) table exit_env found
+    (walk_suite (body_context_in around returned)
+    (record { table = table; env = Some env; exit_env = exit_env; found = found }) b) out (breaks_in_suite b labels)
+    (SuiteFinds around.whole around.context seen b labels)
 
 -- the findings under labels in the body of a function and at its name
 abbrev pub BodySays : Module → (constants : List Tree) → Owner → (f : FuncDef) → FunctionLabels f → Finding → Type 0

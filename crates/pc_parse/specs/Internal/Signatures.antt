@@ -23,7 +23,7 @@ use Rattle.pc_grammar.specs.Machine.States.{def_due}
 use Rattle.pc_grammar.specs.Machine.States.{self_read, param_due, params_read, part_due, Transition, on}
 use Rattle.pc_grammar.specs.Machine.Finishing.{finish_ann, param_end, after_def}
 use Rattle.pc_grammar.specs.Machine.Lines.{params_of}
-use Rattle.pc_grammar.specs.Fronts.Lines.{is_method}
+use Rattle.pc_grammar.specs.Fronts.Lines.{is_in_class}
 use Rattle.pc_reader.specs.Reading.{Blames, IsAhead, Came, Onward, IsReady, left_in}
 use Rattle.pc_reader.specs.Internal.StatesAhead.{StandsBefore, LeadsTo}
 use Rattle.pc_parse.specs.declared.parser.Parser.{Parser}
@@ -109,13 +109,13 @@ module _ {X I : Type 0} (texts : TextOf X) (source : TokensOf I (Result (Token X
     pub keeps : KeepsTree (λ w. map param_of w.items) wholes_of_params a.deep b.deep v params
     pub ready : IsReady source.can_next source.remaining b.reader
     pub later : left_in source.remaining b.reader < left_in source.remaining a.reader
-    pub leads : (owner : FunctionOwner) (d : DefStart) → is_method owner ≡ method
+    pub leads : (owner : FunctionOwner) (d : DefStart) → is_in_class owner ≡ method
         → Onward texts.text source.next_gives a.reader b.reader (at (params_of owner d)) (at (params_read d params))
 
   -- the parameters of a function or method and their parentheses were read, or the refusal is the machine's
   abbrev pub ReadsSignature : Bool → Parser X I → Parser X I → Result (Vec RustParam Global) Fault → Type 0
   ReadsSignature method a b r = MatchResult r (λ v. GivesSignature method a b v)
-      (λ e. Blames e (λ o. (owner : FunctionOwner) (d : DefStart) → is_method owner ≡ method
+      (λ e. Blames e (λ o. (owner : FunctionOwner) (d : DefStart) → is_in_class owner ≡ method
       → Came texts.text source.next_gives a.reader (at (params_of owner d)) o))
 
   -- a function or method was read, from after its `def`
@@ -124,12 +124,12 @@ module _ {X I : Type 0} (texts : TextOf X) (source : TokensOf I (Result (Token X
     pub keeps : KeepsTree func_of wholes_of_def a.deep b.deep f function
     pub ready : IsReady source.can_next source.remaining b.reader
     pub later : left_in source.remaining b.reader < left_in source.remaining a.reader
-    pub leads : (owner : FunctionOwner) (first : Place) → is_method owner ≡ method
+    pub leads : (owner : FunctionOwner) (first : Place) → is_in_class owner ≡ method
         → Onward texts.text source.next_gives a.reader b.reader (at (def_due owner first))
         (at (after_def owner first function))
 
   -- a function or method was read, from after its `def`, or the refusal is the machine's
   abbrev pub ReadsFunction : Bool → Parser X I → Parser X I → Result RustFuncDef Fault → Type 0
   ReadsFunction method a b r = MatchResult r (λ f. GivesFunction method a b f)
-      (λ e. Blames e (λ o. (owner : FunctionOwner) (first : Place) → is_method owner ≡ method
+      (λ e. Blames e (λ o. (owner : FunctionOwner) (first : Place) → is_in_class owner ≡ method
       → Came texts.text source.next_gives a.reader (at (def_due owner first)) o))

@@ -122,14 +122,14 @@ pub record HasAppliedSigns (x : Sign) (ts : List Lexeme) (p : Part) (o : Operand
   pub level_is : o'.level ≡ wrapped_level x back o.level
 
 module _ {X I : Type 0} (texts : TextOf X) (source : TokensOf I (Result (Token X) Fault)) where
-  -- the token ahead was taken, which stands at this place
+  -- the token ahead was taken, which is at this place
   pub record TakesAt (a b : Reader X I) (p : Place) : Type 0 where
     pub token : Token X
     pub takes : Takes texts source a b token
     pub starts : token.place.start ≡ p.start
     pub ends : token.place.end ≡ p.end
 
-  -- the token ahead was taken, which is of this kind and stands at this place
+  -- the token ahead was taken, which is of this kind and at this place
   pub record TakesKindAt (k : TokenKind) (a b : Reader X I) (p : Place) : Type 0 where
     pub token : Token X
     pub takes : Takes texts source a b token

@@ -126,7 +126,7 @@ module _ {Ty : Type 0} (tree : Ty → Tree) where
   }
 
 module _ {Ty : Type 0} (tree : Ty → Tree) where
-  -- the context that a setting means
+  -- the context that a program's context means
   abbrev pub context_with : ExprContext Ty → Context
   context_with s = record {
     bases = class_parents s.globals.now;
@@ -138,7 +138,7 @@ module _ {Ty : Type 0} (tree : Ty → Tree) where
     resolve = meanings s.names.now;
   }
 
-  -- the standing that a setting and the types of an environment mean
+  -- the standing that a program's context and the types of an environment mean
   abbrev pub standing_of : ExprContext Ty → List (Option Ty) → Standing
   standing_of s types = record {
     context = context_with s;
@@ -162,7 +162,7 @@ pub record HasOffer {Ty : Type 0} (has : Ty → Type 0) (o : RustOffer Ty) : Typ
   pub gives : has o.gives
   pub takes : HasIfAny has o.takes
 
--- the store gave all types of a setting and of an environment; those of the locals are well-formed
+-- the store gave all types of a context and of an environment; those of the locals are well-formed
 pub record HasGivenAll {Ty : Type 0} (has : Ty → Type 0) (tree : Ty → Tree) (s : ExprContext Ty)
     (types : List (Option Ty)) : Type 0 where
   pub classes : HasEntries has s.globals.now.classes.now

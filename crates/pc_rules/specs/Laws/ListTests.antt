@@ -6,7 +6,7 @@ use Rattle.pc_tree.specs.declared.code.Code.TheVariants.{A7}
 use Rattle.pc_tree.specs.Code.{finding}
 use Rattle.pc_tree.specs.Tree.{Name, Expr, name, call, no_exprs, more_exprs, no_keywords}
 use Rattle.pc_scope.specs.declared.resolution.Builtin.TheVariants as builtin
-use Rattle.pc_scope.specs.declared.resolution.NameMeaning.TheVariants as res
+use Rattle.pc_scope.specs.declared.resolution.NameMeaning.TheVariants as meaning
 use Rattle.pc_types.specs.Tree.{Tree, Any, Object}
 use Rattle.pc_types.specs.Shape.{members}
 use Rattle.pc_flow.specs.Environment.{Env, current}
@@ -21,9 +21,9 @@ call_of_names p callee first second =
 
 -- the names mean `isinstance`, the local of this number, and `list`
 pub record TestsForList (ctx : Context) (callee first second : Name) (x : ℕ) : Type 0 where
-  pub instance : ctx.resolve callee.text ≡ res.Builtin builtin.IsInstance
-  pub local : ctx.resolve first.text ≡ res.Local x
-  pub for_list : ctx.resolve second.text ≡ res.Builtin builtin.List
+  pub instance : ctx.resolve callee.text ≡ meaning.Builtin builtin.IsInstance
+  pub local : ctx.resolve first.text ≡ meaning.Local x
+  pub for_list : ctx.resolve second.text ≡ meaning.Builtin builtin.List
 
 -- a member of the type is Any or object
 abbrev pub HasAnyOrObject : Tree → Type 0

@@ -13,7 +13,7 @@ use Rattle.pc_stopping.specs.Found.{found_in_scopes}
 use Rattle.pc_scope.specs.declared.resolution.Owner.{Owner}
 use Rattle.pc_scope.specs.declared.resolution.Owner.TheVariants as owners
 use Rattle.pc_scope.specs.declared.resolution.NameMeaning.{NameMeaning}
-use Rattle.pc_scope.specs.declared.resolution.NameMeaning.TheVariants as res
+use Rattle.pc_scope.specs.declared.resolution.NameMeaning.TheVariants as meaning
 use Rattle.pc_scope.specs.Expressions.{parts_in, other_callee, exprs_in_all}
 use Rattle.pc_scope_findings.specs.Unreached.{unreached_places}
 
@@ -21,7 +21,7 @@ use Rattle.pc_scope_findings.specs.Unreached.{unreached_places}
 
 -- the name means nothing
 abbrev pub means_nothing : NameMeaning → Bool
-means_nothing res.None = true
+means_nothing meaning.None = true
 means_nothing _ = false
 
 -- the place of a name that means nothing, if there is a name
@@ -43,9 +43,9 @@ unknown_in resolve (e ∷ es) = unknown_among resolve (parts_in true e) ++ unkno
 
 -- an initializer after this many constants and classes may not use a name of this meaning
 abbrev pub is_early_meaning : (constants classes : ℕ) → NameMeaning → Bool
-is_early_meaning k c (res.Func i) = true
-is_early_meaning k c (res.Const i) = nat_le k i
-is_early_meaning k c (res.Class i) = nat_le c i
+is_early_meaning k c (meaning.Func i) = true
+is_early_meaning k c (meaning.Const i) = nat_le k i
+is_early_meaning k c (meaning.Class i) = nat_le c i
 is_early_meaning k c _ = false
 
 -- the place of a name that is used too early, if there is a name

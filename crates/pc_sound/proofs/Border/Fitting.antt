@@ -15,7 +15,7 @@ use Rattle.pc_machine.specs.Calls.{NamedValue}
 use Rattle.pc_sound.specs.Values.{HeapTyping}
 use Rattle.pc_sound.specs.Typed.{has_type, is_well, suits}
 use Rattle.pc_sound.specs.Border.{ValueDemand, constant_demands, argument_demands, are_met, typing_found, passing_typing}
-use Rattle.pc_sound.specs.OutsideCalls.{IsReady}
+use Rattle.pc_sound.specs.OutsideCalls.{IsReadyForCalls}
 use Rattle.pc_sound.specs.Fitting.{AreMet, IsFitting, FittingIsRight, FittingCallsAreSound}
 use Rattle.pc_sound.specs.Fitting.{FittingSequencesAreSound}
 use Rattle.pc_sound.proofs.Border.TypedValues.{typed, well, suited}
@@ -32,7 +32,7 @@ met bases k (d ∷ ds) e =
     let h = and_parts (has_type bases k d.type d.value) (are_met bases k ds) e in
     (typed bases k d.type d.value h.0, met bases k ds h.1)
 
-module _ (m : Module) (labels : Labelling m) (k : HeapTyping) (s : State) (ready : IsReady m labels k s) (heap : Heap)
+module _ (m : Module) (labels : Labelling m) (k : HeapTyping) (s : State) (ready : IsReadyForCalls m labels k s) (heap : Heap)
     (objects : List ValueDemand) (params : List TypedParameter) (values : List Value) (named : List NamedValue) where
   -- the demands on the constants
   abbrev OfConstants : List ValueDemand

@@ -16,7 +16,7 @@ use Rattle.pc_sound.specs.Values.{HeapTyping, HasType, Extends}
 use Rattle.pc_sound.proofs.Steps.Judgment.{Around, IsSafe, IsContextOf}
 use Rattle.pc_sound.proofs.Values.ValuesFlow.{later}
 use Rattle.pc_sound.proofs.Steps.SafeSteps.{Stays, bind_safe, comes_safe}
-use Rattle.pc_sound.proofs.Settled.KeyedLabels.{ItemsKeyed, KeywordsKeyed}
+use Rattle.pc_sound.proofs.Regular.KeyedLabels.{ItemsKeyed, KeywordsKeyed}
 use Rattle.pc_sound.proofs.Expressions.SimpleExpressions.{Covered, GoodEval}
 use Rattle.pc_sound.proofs.Values.Flows.{Evaluates}
 use Rattle.pc_sound.proofs.Values.UnionMembers.{HasEach, each_later}

@@ -13,7 +13,7 @@ use Rattle.pc_tree.specs.Depth.{place_of}
 use Rattle.pc_scope.specs.declared.resolution.Owner.{Owner}
 use Rattle.pc_scope.specs.declared.resolution.Owner.TheVariants as owners
 use Rattle.pc_scope.specs.declared.resolution.NameMeaning.{NameMeaning}
-use Rattle.pc_scope.specs.declared.resolution.NameMeaning.TheVariants as res
+use Rattle.pc_scope.specs.declared.resolution.NameMeaning.TheVariants as meaning
 use Rattle.pc_scope.specs.Expressions.{is_instance_test}
 use Rattle.pc_scope.specs.Bindings.{functions_in, classes_in}
 use Rattle.pc_scope.specs.Resolution.{index_of, locals, function_of, local_meaning, or_meaning, resolve_in_module}
@@ -40,7 +40,7 @@ use Rattle.pc_machine.specs.Evaluation.{ordinary, eval_call, eval_node, eval_all
 use Rattle.pc_sound.specs.Values.{HasType}
 use Rattle.pc_sound.specs.Loaded.{IsLoaded}
 use Rattle.pc_sound.proofs.Steps.Judgment.{Around, IsSafe, IsContextOf}
-use Rattle.pc_sound.proofs.Settled.KeyedLabels.{Keyed}
+use Rattle.pc_sound.proofs.Regular.KeyedLabels.{Keyed}
 use Rattle.pc_sound.proofs.Expressions.SimpleExpressions.{Covered, GoodEval}
 use Rattle.pc_sound.proofs.Values.Flows.{Evaluates}
 use Rattle.pc_sound.proofs.Heap.Fields.{Inherits}
@@ -60,7 +60,7 @@ use Rattle.pc_sound.proofs.Calls.ValueCalls.{with_own, ordinary_call, values_qui
 use Rattle.pc_sound.proofs.Calls.ValueCalls.{named_value_safe, arguments_covered}
 
 -- a name that is no local means what the module says
-outside_func : (o : Option ℕ) (r : NameMeaning) (i : ℕ) → or_meaning (local_meaning o) r ≡ res.Func i → r ≡ res.Func i
+outside_func : (o : Option ℕ) (r : NameMeaning) (i : ℕ) → or_meaning (local_meaning o) r ≡ meaning.Func i → r ≡ meaning.Func i
 outside_func None r i e = e
 outside_func (Some x) r i e = absurd (grind (arith, e))
 
@@ -162,9 +162,9 @@ module _ (m : Module) (constants : List Tree) (listed : Place → Type 0) (facts
     record FunctionAt (word : List ℕ) (i : ℕ) : Type 0 where
       def : FuncDef
       at : slice_get (functions_in m.items) i ≡ Some def
-      resolves : resolve_in_module m word ≡ res.Func i
+      resolves : resolve_in_module m word ≡ meaning.Func i
 
-    function_at : (word : List ℕ) (i : ℕ) → Ctx.resolve word ≡ res.Func i → FunctionAt word i
+    function_at : (word : List ℕ) (i : ℕ) → Ctx.resolve word ≡ meaning.Func i → FunctionAt word i
     function_at word i e =
         let r = outside_func (index_of word (locals owner d)) (resolve_in_module m word) i e in
         let n = function_named m word i r in
@@ -172,8 +172,8 @@ module _ (m : Module) (constants : List Tree) (listed : Place → Type 0) (facts
         let at : i ≡ n.at = omega arith in
         record { def = n.function; at = ap (slice_get (functions_in m.items)) at ∙ n.is; resolves = r }
 
-    no_local : (word : List ℕ) (r : NameMeaning) → Ctx.resolve word ≡ r → ((x : ℕ) → r ≡ res.Local x → ⊥) → (x : ℕ)
-        → Ctx.resolve word ≡ res.Local x → ⊥
+    no_local : (word : List ℕ) (r : NameMeaning) → Ctx.resolve word ≡ r → ((x : ℕ) → r ≡ meaning.Local x → ⊥) → (x : ℕ)
+        → Ctx.resolve word ≡ meaning.Local x → ⊥
     no_local word r e n x f = n x (sym e ∙ f)
 
     module _ (want : Option Tree) (p : Place) (n : Name) (args : Exprs) (kws : Keywords)
@@ -198,7 +198,7 @@ module _ (m : Module) (constants : List Tree) (listed : Place → Type 0) (facts
           (sym (ordinary_call n args kws no_test)) h
 
       -- a function
-      function_node : (i : ℕ) → Ctx.resolve n.text ≡ res.Func i → CallSafe p (name n) args kws k
+      function_node : (i : ℕ) → Ctx.resolve n.text ≡ meaning.Func i → CallSafe p (name n) args kws k
       function_node i e =
           let a = function_at n.text i e in
           let is : name_callee Ctx env (arguments_given args kws) (Ctx.resolve n.text) ≡ good_callee
@@ -214,7 +214,7 @@ module _ (m : Module) (constants : List Tree) (listed : Place → Type 0) (facts
           p n args kws k.arguments k.keywords k.here i a.def l (runs (owners.Func i) a.def l)
           (λ j st stands. let f = stands.outside.function n.text i a.def a.resolves a.at in (
             f.function,
-            meaning_outside Here Ctx Fit n.text (no_local n.text (res.Func i) e (λ x g. grind (arith, g)))
+            meaning_outside Here Ctx Fit n.text (no_local n.text (meaning.Func i) e (λ x g. grind (arith, g)))
                 env j st stands ∙ ap (meaning_of_global (is_reserved n.text)) f.is,
             f.made,
           ))
@@ -226,7 +226,7 @@ module _ (m : Module) (constants : List Tree) (listed : Place → Type 0) (facts
           found_args (λ f h. covered f (inr (inr (inr (inr h))))) (λ f h. covered f (inl h)) keyed.1.1.0 keyed.1.1.1)
 
       -- a class
-      class_node : (c : ℕ) → Ctx.resolve n.text ≡ res.Class c → CallSafe p (name n) args kws k
+      class_node : (c : ℕ) → Ctx.resolve n.text ≡ meaning.Class c → CallSafe p (name n) args kws k
       class_node c e = go (nat_lt c Ctx.known) refl
         where
           go : (b : Test) → nat_lt c Ctx.known ≡ b → CallSafe p (name n) args kws k
@@ -286,14 +286,14 @@ module _ (m : Module) (constants : List Tree) (listed : Place → Type 0) (facts
       name_node unreserved = go (Ctx.resolve n.text) refl
         where
           go : (r : NameMeaning) → Ctx.resolve n.text ≡ r → CallSafe p (name n) args kws k
-          go (res.Local x) e = named_node (res.Local x) e (ap (name_callee Ctx env (arguments_given args kws)) e
+          go (meaning.Local x) e = named_node (meaning.Local x) e (ap (name_callee Ctx env (arguments_given args kws)) e
               ∙ ap (λ r. value_callee (name_label Ctx env r)) (sym e))
-          go (res.Const i) e = named_node (res.Const i) e (ap (name_callee Ctx env (arguments_given args kws)) e
+          go (meaning.Const i) e = named_node (meaning.Const i) e (ap (name_callee Ctx env (arguments_given args kws)) e
               ∙ ap (λ r. value_callee (name_label Ctx env r)) (sym e))
-          go (res.Func i) e = function_node i e
-          go (res.Class c) e = class_node c e
-          go (res.Builtin b) e = absurd (unreserved b e)
-          go res.None e = named_node res.None e (ap (name_callee Ctx env (arguments_given args kws)) e
+          go (meaning.Func i) e = function_node i e
+          go (meaning.Class c) e = class_node c e
+          go (meaning.Builtin b) e = absurd (unreserved b e)
+          go meaning.None e = named_node meaning.None e (ap (name_callee Ctx env (arguments_given args kws)) e
               ∙ ap (λ r. value_callee (name_label Ctx env r)) (sym e))
 
     -- ---- all other calls

@@ -12,7 +12,7 @@ use Rattle.pc_tree.specs.Depth.{place_of}
 use Rattle.pc_tree.specs.Stopping.{has_none}
 use Rattle.pc_scope.specs.declared.resolution.Builtin.{Builtin}
 use Rattle.pc_scope.specs.declared.resolution.Builtin.TheVariants as builtin
-use Rattle.pc_scope.specs.declared.resolution.NameMeaning.TheVariants as res
+use Rattle.pc_scope.specs.declared.resolution.NameMeaning.TheVariants as meaning
 use Rattle.pc_scope.specs.Expressions.{is_instance_test, are_two}
 use Rattle.pc_types.specs.Tree.{Tree, Int, Str, NoneType, ListOf, DictOf, TupleOf}
 use Rattle.pc_types.specs.Below.{Bases}
@@ -47,7 +47,7 @@ use Rattle.pc_sound.proofs.Steps.Judgment.{Around, IsSafe, IsContextOf}
 use Rattle.pc_sound.proofs.Lists.{not_empty, same_text_back}
 use Rattle.pc_sound.proofs.Steps.SafeSteps.{Stays, bind_safe, comes_safe, looks_safe, act_safe, may_stop_safe}
 use Rattle.pc_sound.proofs.Steps.SafeSteps.{emits_safe, weaken}
-use Rattle.pc_sound.proofs.Settled.KeyedLabels.{Keyed}
+use Rattle.pc_sound.proofs.Regular.KeyedLabels.{Keyed}
 use Rattle.pc_sound.proofs.Expressions.SimpleExpressions.{Covered, GoodEval, allowed}
 use Rattle.pc_sound.proofs.Values.Flows.{Evaluates}
 use Rattle.pc_sound.proofs.Values.Joins.{all_hold}
@@ -142,7 +142,7 @@ module _ (around : Around) (ctx : Context) (fits : IsContextOf around ctx) (know
     (parts : Parts Step) (good : GoodEval around ctx parts.eval) (evaluates : (e : Expr)
     → Evaluates (place_of e) (parts.eval e)) (env : Env) where
   -- a reserved name as a callee
-  reserved_callee_safe : (n : Name) (b : Builtin) → ctx.resolve n.text ≡ res.Builtin b → (callee : Label)
+  reserved_callee_safe : (n : Name) (b : Builtin) → ctx.resolve n.text ≡ meaning.Builtin b → (callee : Label)
       → Covered around (IsFoundAt n.place callee.codes) → IsSafe around env (λ k. Unit {0})
       (eval_callee Step free parts (name n)) (λ k c. c ≡ calls_reserved n.text)
   reserved_callee_safe n b is callee covered =
@@ -152,7 +152,7 @@ module _ (around : Around) (ctx : Context) (fits : IsContextOf around ctx) (know
       λ w. looks_safe around env _ _ _ λ k s h st. subst (λ m. EndsWell (λ c. c ≡ calls_reserved n.text)
       (callee_of_meaning n.text m)) (sym (means_a_builtin around ctx fits knows env n.text b is k s st)) refl
 
-  module _ (p : Place) (n : Name) (b : Builtin) (is : ctx.resolve n.text ≡ res.Builtin b) (o : IsOrdinary b) where
+  module _ (p : Place) (n : Name) (b : Builtin) (is : ctx.resolve n.text ≡ meaning.Builtin b) (o : IsOrdinary b) where
     text : n.text ≡ builtin_text b
     text = reserved_is around ctx fits knows env n.text b is
 
@@ -290,7 +290,7 @@ module _ (around : Around) (ctx : Context) (fits : IsContextOf around ctx) (know
 
   -- ---- `print`
 
-  pub print_safe : (want : Option Tree) (p : Place) (n : Name) → ctx.resolve n.text ≡ res.Builtin builtin.Print
+  pub print_safe : (want : Option Tree) (p : Place) (n : Name) → ctx.resolve n.text ≡ meaning.Builtin builtin.Print
       → (args : Exprs) (kws : Keywords) (m : Labels (call p (name n) args kws))
       → Lawful ctx around.declared env want (call p (name n) args kws) m
       → Covered around (Finds (call p (name n) args kws) m) → Keyed (call p (name n) args kws) m
@@ -324,7 +324,7 @@ module _ (around : Around) (ctx : Context) (fits : IsContextOf around ctx) (know
 
   -- ---- `str`
 
-  pub str_safe : (want : Option Tree) (p : Place) (n : Name) → ctx.resolve n.text ≡ res.Builtin builtin.Str
+  pub str_safe : (want : Option Tree) (p : Place) (n : Name) → ctx.resolve n.text ≡ meaning.Builtin builtin.Str
       → (args : Exprs) (kws : Keywords) (m : Labels (call p (name n) args kws))
       → Lawful ctx around.declared env want (call p (name n) args kws) m
       → Covered around (Finds (call p (name n) args kws) m) → Keyed (call p (name n) args kws) m
@@ -378,7 +378,7 @@ module _ (around : Around) (ctx : Context) (fits : IsContextOf around ctx) (know
 
   -- ---- `len`
 
-  pub len_safe : (want : Option Tree) (p : Place) (n : Name) → ctx.resolve n.text ≡ res.Builtin builtin.Len
+  pub len_safe : (want : Option Tree) (p : Place) (n : Name) → ctx.resolve n.text ≡ meaning.Builtin builtin.Len
       → (args : Exprs) (kws : Keywords) (m : Labels (call p (name n) args kws))
       → Lawful ctx around.declared env want (call p (name n) args kws) m
       → Covered around (Finds (call p (name n) args kws) m) → Keyed (call p (name n) args kws) m
@@ -435,7 +435,7 @@ module _ (around : Around) (ctx : Context) (fits : IsContextOf around ctx) (know
 
   -- ---- `range` outside a `for`, and reserved names that are not called
 
-  pub range_error : (p : Place) (n : Name) → ctx.resolve n.text ≡ res.Builtin builtin.Range
+  pub range_error : (p : Place) (n : Name) → ctx.resolve n.text ≡ meaning.Builtin builtin.Range
       → (want : Option Tree) (args : Exprs) (kws : Keywords) (m : Labels (call p (name n) args kws))
       → Lawful ctx around.declared env want (call p (name n) args kws) m
       → Covered around (Finds (call p (name n) args kws) m) → Keyed (call p (name n) args kws) m
@@ -451,7 +451,7 @@ module _ (around : Around) (ctx : Context) (fits : IsContextOf around ctx) (know
       go false e = found_safe p n builtin.Range is tt want args kws m law covered keyed E14 [] (ap (λ x. x.codes) e)
 
   pub not_callable : (b : Builtin) → ((g : GivenArguments) → builtin_callee g b ≡ value_callee (in_error E20))
-      → (p : Place) (n : Name) → ctx.resolve n.text ≡ res.Builtin b
+      → (p : Place) (n : Name) → ctx.resolve n.text ≡ meaning.Builtin b
       → (want : Option Tree) (args : Exprs) (kws : Keywords) (m : Labels (call p (name n) args kws))
       → is_instance_test (name n) args kws ≡ false → Lawful ctx around.declared env want (call p (name n) args kws) m
       → Covered around (Finds (call p (name n) args kws) m)
@@ -463,7 +463,7 @@ module _ (around : Around) (ctx : Context) (fits : IsContextOf around ctx) (know
       ∙ ap (λ x. x.label) (other (arguments_given args kws))))
 
   -- `isinstance` on other arguments than two by position
-  pub test_error : (p : Place) (n : Name) → ctx.resolve n.text ≡ res.Builtin builtin.IsInstance
+  pub test_error : (p : Place) (n : Name) → ctx.resolve n.text ≡ meaning.Builtin builtin.IsInstance
       → (want : Option Tree) (args : Exprs) (kws : Keywords) (m : Labels (call p (name n) args kws))
       → is_instance_test (name n) args kws ≡ false → Lawful ctx around.declared env want (call p (name n) args kws) m
       → Covered around (Finds (call p (name n) args kws) m) → Keyed (call p (name n) args kws) m

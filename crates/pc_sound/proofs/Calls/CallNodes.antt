@@ -35,7 +35,7 @@ use Rattle.pc_sound.specs.Arguments.{Suits}
 use Rattle.pc_sound.proofs.Steps.Judgment.{Around, IsWellTyped, IsSafe, IsContextOf}
 use Rattle.pc_sound.proofs.Lists.{not_empty}
 use Rattle.pc_sound.proofs.Steps.SafeSteps.{Stays, bind_safe, looks_safe, emits_safe, may_stop_safe, weaken}
-use Rattle.pc_sound.proofs.Settled.KeyedLabels.{ItemsKeyed, KeywordsKeyed}
+use Rattle.pc_sound.proofs.Regular.KeyedLabels.{ItemsKeyed, KeywordsKeyed}
 use Rattle.pc_sound.proofs.Expressions.SimpleExpressions.{Covered, GoodEval}
 use Rattle.pc_sound.proofs.Values.Flows.{Evaluates}
 use Rattle.pc_sound.proofs.Heap.Fields.{Inherits}

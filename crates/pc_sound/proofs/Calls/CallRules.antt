@@ -9,7 +9,7 @@ use Rattle.pc_tree.specs.declared.code.Code.TheVariants.{E14}
 use Rattle.pc_tree.specs.Tree.{Expr, Exprs, Keywords, name, no_exprs, more_exprs, no_keywords, more_keywords}
 use Rattle.pc_tree.specs.Stopping.{has_none}
 use Rattle.pc_scope.specs.declared.resolution.Builtin.TheVariants as builtin
-use Rattle.pc_scope.specs.declared.resolution.NameMeaning.TheVariants as res
+use Rattle.pc_scope.specs.declared.resolution.NameMeaning.TheVariants as meaning
 use Rattle.pc_scope.specs.Reserved.{builtin_of}
 use Rattle.pc_scope.specs.Expressions.{is_instance_test, are_two}
 use Rattle.pc_flow.specs.Environment.{Env}
@@ -23,7 +23,7 @@ use Rattle.pc_types.specs.Tree.{Tree}
 
 -- the name `isinstance` means the built-in
 abbrev pub MeansTest : Context → Type 0
-MeansTest ctx = ctx.resolve (codes "isinstance") ≡ res.Builtin builtin.IsInstance
+MeansTest ctx = ctx.resolve (codes "isinstance") ≡ meaning.Builtin builtin.IsInstance
 
 pub test_reserved : builtin_of (codes "isinstance") ≡ Some builtin.IsInstance
 unfolding builtin_of

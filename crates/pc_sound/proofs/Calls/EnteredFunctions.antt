@@ -13,7 +13,7 @@ use Rattle.pc_tree.specs.Tree.{Name, FuncDef, Item, constant_item, class_item, d
 use Rattle.pc_tree.specs.Stopping.{bound_by, loose_in}
 use Rattle.pc_scope.specs.declared.resolution.Owner.{Owner}
 use Rattle.pc_scope.specs.declared.resolution.NameMeaning.{NameMeaning}
-use Rattle.pc_scope.specs.declared.resolution.NameMeaning.TheVariants as res
+use Rattle.pc_scope.specs.declared.resolution.NameMeaning.TheVariants as meaning
 use Rattle.pc_scope.specs.declared.resolution.Builtin.{Builtin}
 use Rattle.pc_scope.specs.Reserved.{builtin_of}
 use Rattle.pc_scope.specs.Bindings.{texts}
@@ -50,35 +50,35 @@ use Rattle.pc_sound.proofs.Steps.Frames.{local_injective, none_current}
 
 -- the module binds no local
 bound_local : (k f c : ℕ) (items : List Item) (word : List ℕ) (x : ℕ) → bound_first k f c items word
-    ≡ Some (res.Local x) → ⊥
+    ≡ Some (meaning.Local x) → ⊥
 bound_local k f c [] word x e = grind (arith, e)
 bound_local k f c (constant_item p i ∷ rest) word x e = go (λ r. bound_local (suc k) f c rest word x r)
     (bytes_eq i.name.text word) e
   where
-    go : (bound_first (suc k) f c rest word ≡ Some (res.Local x) → ⊥) → (b : Test)
-        → (if b then Some (res.Const k) else bound_first (suc k) f c rest word) ≡ Some (res.Local x) → ⊥
+    go : (bound_first (suc k) f c rest word ≡ Some (meaning.Local x) → ⊥) → (b : Test)
+        → (if b then Some (meaning.Const k) else bound_first (suc k) f c rest word) ≡ Some (meaning.Local x) → ⊥
     go others true e = grind (arith, e)
     go others false e = others e
 bound_local k f c (def_item p i ∷ rest) word x e = go (λ r. bound_local k (suc f) c rest word x r)
     (bytes_eq i.name.text word) e
   where
-    go : (bound_first k (suc f) c rest word ≡ Some (res.Local x) → ⊥) → (b : Test)
-        → (if b then Some (res.Func f) else bound_first k (suc f) c rest word) ≡ Some (res.Local x) → ⊥
+    go : (bound_first k (suc f) c rest word ≡ Some (meaning.Local x) → ⊥) → (b : Test)
+        → (if b then Some (meaning.Func f) else bound_first k (suc f) c rest word) ≡ Some (meaning.Local x) → ⊥
     go others true e = grind (arith, e)
     go others false e = others e
 bound_local k f c (class_item p i ∷ rest) word x e = go (λ r. bound_local k f (suc c) rest word x r)
     (bytes_eq i.name.text word) e
   where
-    go : (bound_first k f (suc c) rest word ≡ Some (res.Local x) → ⊥) → (b : Test)
-        → (if b then Some (res.Class c) else bound_first k f (suc c) rest word) ≡ Some (res.Local x) → ⊥
+    go : (bound_first k f (suc c) rest word ≡ Some (meaning.Local x) → ⊥) → (b : Test)
+        → (if b then Some (meaning.Class c) else bound_first k f (suc c) rest word) ≡ Some (meaning.Local x) → ⊥
     go others true e = grind (arith, e)
     go others false e = others e
 
-pub module_local : (m : Module) (word : List ℕ) (x : ℕ) → resolve_in_module m word ≡ res.Local x → ⊥
+pub module_local : (m : Module) (word : List ℕ) (x : ℕ) → resolve_in_module m word ≡ meaning.Local x → ⊥
 module_local m word x e = go (builtin_of word) (bound_first 0 0 0 m.items word) refl e
   where
     go : (b : Option Builtin) (o : Option NameMeaning) → bound_first 0 0 0 m.items word ≡ o
-        → or_meaning (builtin_meaning b) (or_meaning o res.None) ≡ res.Local x → ⊥
+        → or_meaning (builtin_meaning b) (or_meaning o meaning.None) ≡ meaning.Local x → ⊥
     go (Some b) o is e = grind (arith, e)
     go None None is e = grind (arith, e)
     go None (Some r) is e = bound_local 0 0 0 m.items word x (is ∙ ap Some e)
@@ -129,7 +129,7 @@ module _ (m : Module) (constants : List Tree) (listed : Place → Type 0) where
     Body = around_of m constants listed owner d lab
 
     resolves_local : (word : List ℕ) (x : ℕ) (o : Option ℕ) → index_of word (locals owner d) ≡ o
-        → or_meaning (local_res o) (resolve_in_module m word) ≡ res.Local x → index_of word (locals owner d) ≡ Some x
+        → or_meaning (local_res o) (resolve_in_module m word) ≡ meaning.Local x → index_of word (locals owner d) ≡ Some x
     resolves_local word x (Some y) e r = e ∙ ap Some (local_injective r)
     resolves_local word x None e r = absurd (module_local m word x r)
 

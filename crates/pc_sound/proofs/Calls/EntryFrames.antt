@@ -9,7 +9,7 @@ use Rattle.pc_tree.specs.Tree.{annotated, assigns, evaluates, while_loop, for_lo
 use Rattle.pc_tree.specs.Tree.{more_stmts, Branches, no_branches, more_branches}
 use Rattle.pc_tree.specs.Stopping.{bound_by_stmt, bound_by, bound_by_branches}
 use Rattle.pc_scope.specs.declared.resolution.NameMeaning.{NameMeaning}
-use Rattle.pc_scope.specs.declared.resolution.NameMeaning.TheVariants as res
+use Rattle.pc_scope.specs.declared.resolution.NameMeaning.TheVariants as meaning
 use Rattle.pc_scope.specs.Reserved.{is_builtin_name}
 use Rattle.pc_scope.specs.Bindings.{texts}
 use Rattle.pc_scope.specs.Resolution.{index_of, is_one_of, first_of_each}
@@ -235,7 +235,7 @@ parameters_named bases k (p ∷ ps) [] h = absurd h
 parameters_named bases k (p ∷ ps) (l ∷ ls) h = λ i. h.0.same i ∷ parameters_named bases k ps ls h.1 i
 
 module _ (bases : Bases) (k : HeapTyping) (names : List (List ℕ)) (declared : List Tree) (resolve : List ℕ → NameMeaning)
-    (local : (word : List ℕ) (x : ℕ) → resolve word ≡ res.Local x → index_of word names ≡ Some x) (frame : Frame) where
+    (local : (word : List ℕ) (x : ℕ) → resolve word ≡ meaning.Local x → index_of word names ≡ Some x) (frame : Frame) where
   -- after some of the parameters: what was assigned so far holds, and the others' values are those of the locals left
   entered_holds : (seen : NamesBound) (ps : List TypedParameter) (ls : List Local) (tail : Frame) (env : Env)
       → ParametersHave bases k ps ls → LawfulEntry resolve declared seen ps → HasLocals bases k names declared env frame
@@ -254,7 +254,7 @@ module _ (bases : Bases) (k : HeapTyping) (names : List (List ℕ)) (declared : 
           left word n.1 ∙ ap (λ b. if b then Some l.value else local_by_name word (ls ++ tail))
           (same_text_back l.name word ∙ ap (bytes_eq word) args.0.same ∙ n.0)
 
-      bound : (x : ℕ) → is_one_of p.name seen ≡ false → resolve p.name ≡ res.Local x → declared_type declared x ≡ p.type
+      bound : (x : ℕ) → is_one_of p.name seen ≡ false → resolve p.name ≡ meaning.Local x → declared_type declared x ≡ p.type
           → HasLocals bases k names declared (assign env x p.type) frame
       bound x new is d = record { each = each }
         where
@@ -281,12 +281,12 @@ module _ (bases : Bases) (k : HeapTyping) (names : List (List ℕ)) (declared : 
           → DeclaredEntry declared (not b) r p.type → HasLocals bases k names declared
           (assigned_at_entry (not b) r p.type env) frame
       first true e r is d = locals
-      first false e (res.Local x) is d = bound x e is d
-      first false e (res.Const i) is d = locals
-      first false e (res.Func i) is d = locals
-      first false e (res.Class i) is d = locals
-      first false e (res.Builtin b) is d = locals
-      first false e res.None is d = locals
+      first false e (meaning.Local x) is d = bound x e is d
+      first false e (meaning.Const i) is d = locals
+      first false e (meaning.Func i) is d = locals
+      first false e (meaning.Class i) is d = locals
+      first false e (meaning.Builtin b) is d = locals
+      first false e meaning.None is d = locals
 
   -- at the entry each parameter holds a value of its type
   pub entry_holds : (ps : List TypedParameter) (ls : List Local) (tail : Frame) (env : Env) → frame ≡ ls ++ tail

@@ -11,7 +11,7 @@ use Rattle.pc_tree.specs.Tree.{binary, compare, is_none, is_not_none, conjunctio
 use Rattle.pc_tree.specs.Tree.{Exprs, Keywords, FuncDef, Module}
 use Rattle.pc_tree.specs.Depth.{place_of}
 use Rattle.pc_scope.specs.declared.resolution.NameMeaning.{NameMeaning}
-use Rattle.pc_scope.specs.declared.resolution.NameMeaning.TheVariants as res
+use Rattle.pc_scope.specs.declared.resolution.NameMeaning.TheVariants as meaning
 use Rattle.pc_scope.specs.Expressions.{is_name, is_instance_test}
 use Rattle.pc_scope.specs.Bindings.{classes_in}
 use Rattle.pc_types.specs.Tree.{Tree}
@@ -37,12 +37,12 @@ use Rattle.pc_sound.specs.Values.{HasType}
 use Rattle.pc_sound.proofs.Lists.{not_empty}
 use Rattle.pc_sound.proofs.Steps.Judgment.{Around, IsSafe, IsContextOf}
 use Rattle.pc_sound.proofs.Steps.SafeSteps.{bind_safe, may_stop_safe, emits_safe, weaken}
-use Rattle.pc_sound.proofs.Settled.SettledParts.{tests_in_time, Settled}
-use Rattle.pc_sound.proofs.Settled.SettledCalls.{ParametersSettled}
-use Rattle.pc_sound.proofs.Settled.SettledModules.{initializer_settled}
-use Rattle.pc_sound.proofs.Settled.OwnTypes.{own_settled, with_own_settled}
-use Rattle.pc_sound.proofs.Settled.OwnCodes.{heard_code, own_heard}
-use Rattle.pc_sound.proofs.Settled.KeyedLabels.{Keyed}
+use Rattle.pc_sound.proofs.Regular.RegularParts.{tests_in_time, Regular}
+use Rattle.pc_sound.proofs.Regular.RegularCalls.{ParametersRegular}
+use Rattle.pc_sound.proofs.Regular.RegularModules.{initializer_regular}
+use Rattle.pc_sound.proofs.Regular.OwnTypes.{own_regular, with_own_regular}
+use Rattle.pc_sound.proofs.Regular.OwnCodes.{heard_code, own_heard}
+use Rattle.pc_sound.proofs.Regular.KeyedLabels.{Keyed}
 use Rattle.pc_sound.proofs.Statements.LocalBinding.{evaluated_safe}
 use Rattle.pc_sound.proofs.Expressions.SimpleExpressions.{Covered, GoodEval, part}
 use Rattle.pc_rules.proofs.Saying.{found_here, own_label}
@@ -84,8 +84,8 @@ module _ (m : Module) (listed : Place → Type 0) (types : List Tree) (defs : Li
       (around_items m listed types defs n names) (initializer_context m types n)) (parts : Parts Step)
       (good : GoodEval (around_items m listed types defs n names) (initializer_context m types n) parts.eval)
       (evaluates : (e : Expr) → Evaluates (place_of e) (parts.eval e)) (env : Env) where
-    fields_keyed : (c : ℕ) → ParametersSettled tests_in_time (class_facts_at (classes_of m) c).fields
-    fields_keyed c = (initializer_settled tests_in_time m (λ word d e. tt) [] n
+    fields_keyed : (c : ℕ) → ParametersRegular tests_in_time (class_facts_at (classes_of m) c).fields
+    fields_keyed c = (initializer_regular tests_in_time m (λ word d e. tt) [] n
         (λ i t e. absurd (none-some _ e))).fields c
 
     abbrev CallSafe : (p : Place) (c : Expr) (args : Exprs) (kws : Keywords) → Labels (call p c args kws) → Type 0
@@ -122,9 +122,9 @@ module _ (m : Module) (listed : Place → Type 0) (types : List Tree) (defs : Li
         let here = listed_callee want p c args kws k law is covered in
         let callee : k.callee ≡ with_label c law.value (in_error E03) = law.callee
         ∙ ap (λ x. with_label c law.value x.label) is in
-        let under = subst (λ x. Settled tests_in_time c x) callee keyed.1.0 in
-        let keys = with_own_settled tests_in_time Ctx [] refl (λ word d e. tt) fields_keyed env c law.value
-        (in_error E03) under (own_settled tests_in_time Ctx [] refl (λ word d e. tt) fields_keyed env None tt c other
+        let under = subst (λ x. Regular tests_in_time c x) callee keyed.1.0 in
+        let keys = with_own_regular tests_in_time Ctx [] refl (λ word d e. tt) fields_keyed env c law.value
+        (in_error E03) under (own_regular tests_in_time Ctx [] refl (λ word d e. tt) fields_keyed env None tt c other
         law.value law.lawful (in_error E03) under) in
         let found : Covered Here (Finds c law.value) = finds_under (λ f. listed f.place × (¬ (IsSilentCode f.code))) c
         law.value (in_error E03) (λ f h. (
@@ -187,7 +187,7 @@ module _ (m : Module) (listed : Place → Type 0) (types : List Tree) (defs : Li
           covered E03 [] (ap (λ x. x.codes) (law.callee ∙ ap (λ x. x.label) is))
 
       -- a class
-      class_node : (c : ℕ) → Ctx.resolve w.text ≡ res.Class c → CallSafe p (name w) args kws k
+      class_node : (c : ℕ) → Ctx.resolve w.text ≡ meaning.Class c → CallSafe p (name w) args kws k
       class_node c e = go (nat_lt c n) refl
         where
           go : (b : Test) → nat_lt c n ≡ b → CallSafe p (name w) args kws k
@@ -240,13 +240,13 @@ module _ (m : Module) (listed : Place → Type 0) (types : List Tree) (defs : Li
       name_node unreserved = go (Ctx.resolve w.text) refl
         where
           go : (r : NameMeaning) → Ctx.resolve w.text ≡ r → CallSafe p (name w) args kws k
-          go (res.Local x) e = absurd (module_local m w.text x e)
-          go (res.Const i) e = named_node (res.Const i) e (ap (name_callee Ctx env (arguments_given args kws)) e
+          go (meaning.Local x) e = absurd (module_local m w.text x e)
+          go (meaning.Const i) e = named_node (meaning.Const i) e (ap (name_callee Ctx env (arguments_given args kws)) e
               ∙ ap (λ r. value_callee (name_label Ctx env r)) (sym e))
-          go (res.Func i) e = late_name (ap (name_callee Ctx env (arguments_given args kws)) e)
-          go (res.Class c) e = class_node c e
-          go (res.Builtin b) e = absurd (unreserved b e)
-          go res.None e = named_node res.None e (ap (name_callee Ctx env (arguments_given args kws)) e
+          go (meaning.Func i) e = late_name (ap (name_callee Ctx env (arguments_given args kws)) e)
+          go (meaning.Class c) e = class_node c e
+          go (meaning.Builtin b) e = absurd (unreserved b e)
+          go meaning.None e = named_node meaning.None e (ap (name_callee Ctx env (arguments_given args kws)) e
               ∙ ap (λ r. value_callee (name_label Ctx env r)) (sym e))
 
     others_safe : (want : Option Tree) (p : Place) (c : Expr) (args : Exprs) (kws : Keywords)

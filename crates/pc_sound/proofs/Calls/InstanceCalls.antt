@@ -13,7 +13,7 @@ use Rattle.pc_tree.specs.Depth.{place_of}
 use Rattle.pc_scope.specs.declared.resolution.Builtin.{Builtin}
 use Rattle.pc_scope.specs.declared.resolution.Builtin.TheVariants as builtin
 use Rattle.pc_scope.specs.declared.resolution.NameMeaning.{NameMeaning}
-use Rattle.pc_scope.specs.declared.resolution.NameMeaning.TheVariants as res
+use Rattle.pc_scope.specs.declared.resolution.NameMeaning.TheVariants as meaning
 use Rattle.pc_scope.specs.Expressions.{is_instance_test}
 use Rattle.pc_types.specs.Tree.{Tree, Bool}
 use Rattle.pc_flow.specs.Environment.{Env}
@@ -37,7 +37,7 @@ use Rattle.pc_sound.proofs.Steps.Judgment.{Around, IsWellTyped, IsSafe, IsContex
 use Rattle.pc_sound.proofs.Lists.{same_text_back}
 use Rattle.pc_sound.proofs.Values.ValuesFlow.{later}
 use Rattle.pc_sound.proofs.Steps.SafeSteps.{bind_safe, looks_safe, may_stop_safe, emits_safe, weaken}
-use Rattle.pc_sound.proofs.Settled.KeyedLabels.{Keyed}
+use Rattle.pc_sound.proofs.Regular.KeyedLabels.{Keyed}
 use Rattle.pc_sound.proofs.Expressions.SimpleExpressions.{Covered, GoodEval, allowed, part}
 use Rattle.pc_sound.proofs.Calls.CallRules.{test_reserved, test_callee}
 use Rattle.pc_sound.proofs.Expressions.NameReads.{KnowsNames, builtin_text, means_a_class, means_a_builtin, reserved_is}
@@ -45,12 +45,12 @@ use Rattle.pc_sound.proofs.Expressions.NameReads.{KnowsNames, builtin_text, mean
 module _ (around : Around) (ctx : Context) (fits : IsContextOf around ctx) (knows : KnowsNames around ctx)
     (env : Env) where
   -- a reserved name that is tested for
-  reserved_test : (word : List ℕ) (b : Builtin) (test : Tested) → ctx.resolve word ≡ res.Builtin b
-      → test_named (res.Builtin b) ≡ Some test → EndsWell (λ t. Unit {0}) (test_of_reserved word)
+  reserved_test : (word : List ℕ) (b : Builtin) (test : Tested) → ctx.resolve word ≡ meaning.Builtin b
+      → test_named (meaning.Builtin b) ≡ Some test → EndsWell (λ t. Unit {0}) (test_of_reserved word)
   reserved_test word b test is named = subst (λ w. EndsWell (λ t. Unit {0}) (test_of_reserved w))
       (sym (reserved_is around ctx fits knows env word b is)) (go b named)
     where
-      go : (b : Builtin) → test_named (res.Builtin b) ≡ Some test
+      go : (b : Builtin) → test_named (meaning.Builtin b) ≡ Some test
           → EndsWell (λ t. Unit {0}) (test_of_reserved (builtin_text b))
       go builtin.Int e = tt
       go builtin.Str e = tt
@@ -59,7 +59,7 @@ module _ (around : Around) (ctx : Context) (fits : IsContextOf around ctx) (know
       go _ e = absurd (none-some _ e)
 
   -- a class that is tested for is bound where no E03 stands
-  class_known : (c : ℕ) (m : Label) → m ≡ name_label ctx env (res.Class c) → is_early m.codes ≡ false
+  class_known : (c : ℕ) (m : Label) → m ≡ name_label ctx env (meaning.Class c) → is_early m.codes ≡ false
       → nat_lt c ctx.known ≡ true
   class_known c m law early = go (nat_lt c ctx.known) refl law
     where
@@ -76,14 +76,14 @@ module _ (around : Around) (ctx : Context) (fits : IsContextOf around ctx) (know
     where
       go : (r : NameMeaning) → ctx.resolve word ≡ r → test_named r ≡ Some test → m ≡ name_label ctx env r
           → EndsWell (λ t. Unit {0}) (test_of_meaning word (meaning_in_run word s))
-      go (res.Class c) is e law' = subst (λ x. EndsWell (λ t. Unit {0}) (test_of_meaning word x))
+      go (meaning.Class c) is e law' = subst (λ x. EndsWell (λ t. Unit {0}) (test_of_meaning word x))
           (sym (means_a_class around ctx fits knows env word c is (class_known c m law' early) k s st)) tt
-      go (res.Builtin b) is e law' = subst (λ x. EndsWell (λ t. Unit {0}) (test_of_meaning word x))
+      go (meaning.Builtin b) is e law' = subst (λ x. EndsWell (λ t. Unit {0}) (test_of_meaning word x))
           (sym (means_a_builtin around ctx fits knows env word b is k s st)) (reserved_test word b test is e)
-      go (res.Local x) is e law' = absurd (none-some _ e)
-      go (res.Const i) is e law' = absurd (none-some _ e)
-      go (res.Func i) is e law' = absurd (none-some _ e)
-      go res.None is e law' = absurd (none-some _ e)
+      go (meaning.Local x) is e law' = absurd (none-some _ e)
+      go (meaning.Const i) is e law' = absurd (none-some _ e)
+      go (meaning.Func i) is e law' = absurd (none-some _ e)
+      go meaning.None is e law' = absurd (none-some _ e)
 
   second_tests : (want : Option Tree) (t : Expr) (m : Labels t) (test : Tested) → narrowing.test_of ctx.resolve t
       ≡ Some test → Lawful ctx around.declared env want t m → is_early (whole_label t m).codes ≡ false

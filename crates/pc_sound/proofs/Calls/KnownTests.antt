@@ -4,7 +4,7 @@ use Rattle.std.specs.Prelude.{true, Some, nat_lt, codes}
 use Rattle.std.proofs.lemmas.Option.{none-some, same_Some}
 use Rattle.pc_scope.specs.declared.resolution.Builtin.TheVariants as builtin
 use Rattle.pc_scope.specs.declared.resolution.NameMeaning.{NameMeaning}
-use Rattle.pc_scope.specs.declared.resolution.NameMeaning.TheVariants as res
+use Rattle.pc_scope.specs.declared.resolution.NameMeaning.TheVariants as meaning
 use Rattle.pc_types.specs.Tree.{Int, Bool, Str}
 use Rattle.pc_types.specs.Tree as tree
 use Rattle.pc_flow.specs.Environment.{Env}
@@ -24,10 +24,10 @@ use Rattle.pc_sound.proofs.Steps.SafeSteps.{gives_injective}
 
 -- where there are locals, the classes that names mean are made, with the ancestors that are above them
 pub record KnowsAncestors (around : Around) (ctx : Context) : Type 0 where
-  pub known : (local : List ℕ) (x : ℕ) → ctx.resolve local ≡ res.Local x → (word : List ℕ) (c : ℕ)
-      → ctx.resolve word ≡ res.Class c → nat_lt c ctx.known ≡ true
-  pub descends : (local : List ℕ) (x : ℕ) → ctx.resolve local ≡ res.Local x → (word : List ℕ) (c : ℕ)
-      → ctx.resolve word ≡ res.Class c → (k : HeapTyping) (made : List Class) (globals : Globals)
+  pub known : (local : List ℕ) (x : ℕ) → ctx.resolve local ≡ meaning.Local x → (word : List ℕ) (c : ℕ)
+      → ctx.resolve word ≡ meaning.Class c → nat_lt c ctx.known ≡ true
+  pub descends : (local : List ℕ) (x : ℕ) → ctx.resolve local ≡ meaning.Local x → (word : List ℕ) (c : ℕ)
+      → ctx.resolve word ≡ meaning.Class c → (k : HeapTyping) (made : List Class) (globals : Globals)
       → around.outside k made globals → Descends around.bases made c
 
 module _ (around : Around) (ctx : Context) (fits : IsContextOf around ctx) (knows : KnowsNames around ctx)
@@ -36,7 +36,7 @@ module _ (around : Around) (ctx : Context) (fits : IsContextOf around ctx) (know
   right_tests = record { means = knows.reserved (codes "isinstance") builtin.IsInstance test_reserved; right = right }
     where
       right : (env : Env) (k : HeapTyping) (s : State) → IsWellTyped around env k s → (local : List ℕ) (x : ℕ)
-          → ctx.resolve local ≡ res.Local x → (word : List ℕ) (test : Tested) → test_named (ctx.resolve word)
+          → ctx.resolve local ≡ meaning.Local x → (word : List ℕ) (test : Tested) → test_named (ctx.resolve word)
           ≡ Some test → (made : InstanceTest) → test_of_meaning word (meaning_in_run word s) ≡ Gives made
           → IsRight around.bases s.classes test made
       right env k s st local x l word test named made comes = go (ctx.resolve word) refl named
@@ -47,24 +47,24 @@ module _ (around : Around) (ctx : Context) (fits : IsContextOf around ctx) (know
           so t m e is h = subst (λ y. IsRight around.bases s.classes y made) (same_Some _ _ e)
               (subst (λ y. IsRight around.bases s.classes t y) (gives_injective (sym is ∙ comes)) h)
 
-          reserved : (b : _) → ctx.resolve word ≡ res.Builtin b → test_of_meaning word (meaning_in_run word s)
+          reserved : (b : _) → ctx.resolve word ≡ meaning.Builtin b → test_of_meaning word (meaning_in_run word s)
               ≡ test_of_reserved word
           reserved b e = ap (test_of_meaning word) (means_a_builtin around ctx fits knows env word b e k s st)
 
           go : (r : NameMeaning) → ctx.resolve word ≡ r → test_named r ≡ Some test → IsRight around.bases s.classes test made
-          go (res.Class c) e named = so (for_type (tree.Class c)) (tests_class c) named
+          go (meaning.Class c) e named = so (for_type (tree.Class c)) (tests_class c) named
               (ap (test_of_meaning word) (means_a_class around ctx fits knows env word c e
               (ancestors.known local x l word c e) k s st)) (
                 refl,
                 ancestors.descends local x l word c e k s.classes
                     s.globals st.outside,
               )
-          go (res.Builtin builtin.Int) e named = so (for_type Int) tests_int named (reserved builtin.Int e
+          go (meaning.Builtin builtin.Int) e named = so (for_type Int) tests_int named (reserved builtin.Int e
               ∙ ap test_of_reserved (reserved_is around ctx fits knows env word builtin.Int e)) tt
-          go (res.Builtin builtin.Str) e named = so (for_type Str) tests_str named (reserved builtin.Str e
+          go (meaning.Builtin builtin.Str) e named = so (for_type Str) tests_str named (reserved builtin.Str e
               ∙ ap test_of_reserved (reserved_is around ctx fits knows env word builtin.Str e)) tt
-          go (res.Builtin builtin.Bool) e named = so (for_type Bool) tests_bool named (reserved builtin.Bool e
+          go (meaning.Builtin builtin.Bool) e named = so (for_type Bool) tests_bool named (reserved builtin.Bool e
               ∙ ap test_of_reserved (reserved_is around ctx fits knows env word builtin.Bool e)) tt
-          go (res.Builtin builtin.List) e named = so for_list tests_list named (reserved builtin.List e
+          go (meaning.Builtin builtin.List) e named = so for_list tests_list named (reserved builtin.List e
               ∙ ap test_of_reserved (reserved_is around ctx fits knows env word builtin.List e)) tt
           go _ e named = absurd (none-some _ named)

@@ -45,7 +45,7 @@ use Rattle.pc_sound.proofs.Lists.{front_empty, not_empty, rest_empty}
 use Rattle.pc_sound.proofs.Values.ValuesFlow.{later}
 use Rattle.pc_sound.proofs.Steps.SafeSteps.{Stays, bind_safe, comes_safe, looks_safe, emits_safe, may_stop_safe}
 use Rattle.pc_sound.proofs.Steps.SafeSteps.{act_safe, weaken}
-use Rattle.pc_sound.proofs.Settled.KeyedLabels.{Keyed, IsKeyed, keyed_type, ItemsKeyed, KeywordsKeyed}
+use Rattle.pc_sound.proofs.Regular.KeyedLabels.{Keyed, IsKeyed, keyed_type, ItemsKeyed, KeywordsKeyed}
 use Rattle.pc_sound.proofs.Expressions.SimpleExpressions.{Covered, GoodEval, allowed, part}
 use Rattle.pc_sound.proofs.Values.Flows.{Evaluates}
 use Rattle.pc_sound.proofs.Values.Narrowing.{HasSome, to_members}

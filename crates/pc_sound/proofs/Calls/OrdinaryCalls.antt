@@ -17,7 +17,7 @@ use Rattle.pc_machine.specs.Free.{Step, free, ◌>>=◌, Emits}
 use Rattle.pc_sound.specs.Values.{HeapTyping}
 use Rattle.pc_sound.proofs.Steps.Judgment.{Around, IsSafe, IsContextOf}
 use Rattle.pc_sound.proofs.Steps.SafeSteps.{Stays, bind_safe, emits_safe}
-use Rattle.pc_sound.proofs.Settled.KeyedLabels.{ItemsKeyed, KeywordsKeyed}
+use Rattle.pc_sound.proofs.Regular.KeyedLabels.{ItemsKeyed, KeywordsKeyed}
 use Rattle.pc_sound.proofs.Expressions.SimpleExpressions.{Covered, GoodEval, allowed}
 use Rattle.pc_sound.proofs.Values.Flows.{Evaluates}
 use Rattle.pc_sound.proofs.Calls.Arguments.{ArgumentsHave, KeywordsHave, arguments_later, keywords_later}

@@ -34,7 +34,7 @@ use Rattle.pc_sound.specs.Ends.{EndsWell}
 use Rattle.pc_sound.proofs.Steps.Judgment.{HasListed, Around, IsWellTyped, KeepsState, IsSafe, IsContextOf}
 use Rattle.pc_sound.proofs.Lists.{same_text_back}
 use Rattle.pc_sound.proofs.Steps.SafeSteps.{bind_safe, comes_safe, may_stop_safe, weaken}
-use Rattle.pc_sound.proofs.Settled.KeyedLabels.{Keyed, ItemsKeyed, KeywordsKeyed}
+use Rattle.pc_sound.proofs.Regular.KeyedLabels.{Keyed, ItemsKeyed, KeywordsKeyed}
 use Rattle.pc_sound.proofs.Expressions.SimpleExpressions.{Covered, GoodEval, part}
 use Rattle.pc_sound.proofs.Values.Flows.{Evaluates}
 use Rattle.pc_sound.proofs.Calls.Arguments.{}

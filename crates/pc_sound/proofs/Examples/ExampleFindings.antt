@@ -18,7 +18,7 @@ use Rattle.pc_tree.specs.NamesAlone.{name_of_tree}
 use Rattle.pc_scope.specs.declared.resolution.Owner.{Owner}
 use Rattle.pc_scope.specs.declared.resolution.Owner.TheVariants as owners
 use Rattle.pc_scope.specs.declared.resolution.NameMeaning.{NameMeaning}
-use Rattle.pc_scope.specs.declared.resolution.NameMeaning.TheVariants as res
+use Rattle.pc_scope.specs.declared.resolution.NameMeaning.TheVariants as meaning
 use Rattle.pc_scope.specs.Bindings.{constants_in, classes_in, bodies}
 use Rattle.pc_scope.specs.Resolution.{resolve, resolve_in_module}
 use Rattle.pc_scope.specs.Expressions.{parts_in, other_callee, exprs_in_all}
@@ -129,23 +129,23 @@ no_class c of e = grind (arith, e)
 -- ---- names that mean nothing
 
 abbrev pub is_unknown : NameMeaning → Test
-is_unknown res.None = true
+is_unknown meaning.None = true
 is_unknown _ = false
 
-pub known : (r : NameMeaning) → is_unknown r ≡ false → r ≡ res.None → ⊥
+pub known : (r : NameMeaning) → is_unknown r ≡ false → r ≡ meaning.None → ⊥
 known r e is = true≢false (sym (ap is_unknown is) ∙ e)
 
 -- it means nothing, and stands there
 abbrev pub IsNothing : Finding → NameMeaning → Finding → Type 0
-IsNothing g r f = (r ≡ res.None) × (f ≡ g)
+IsNothing g r f = (r ≡ meaning.None) × (f ≡ g)
 
 abbrev pub nothing_meant : (r : NameMeaning) (g : Finding) → Listing (IsNothing g r)
-nothing_meant res.None g = like (equal_listed g) (λ f h. (refl, h)) (λ f h. h.1)
-nothing_meant (res.Local x) g = none_listed (λ f h. known (res.Local x) refl h.0)
-nothing_meant (res.Const i) g = none_listed (λ f h. known (res.Const i) refl h.0)
-nothing_meant (res.Func i) g = none_listed (λ f h. known (res.Func i) refl h.0)
-nothing_meant (res.Class c) g = none_listed (λ f h. known (res.Class c) refl h.0)
-nothing_meant (res.Builtin b) g = none_listed (λ f h. known (res.Builtin b) refl h.0)
+nothing_meant meaning.None g = like (equal_listed g) (λ f h. (refl, h)) (λ f h. h.1)
+nothing_meant (meaning.Local x) g = none_listed (λ f h. known (meaning.Local x) refl h.0)
+nothing_meant (meaning.Const i) g = none_listed (λ f h. known (meaning.Const i) refl h.0)
+nothing_meant (meaning.Func i) g = none_listed (λ f h. known (meaning.Func i) refl h.0)
+nothing_meant (meaning.Class c) g = none_listed (λ f h. known (meaning.Class c) refl h.0)
+nothing_meant (meaning.Builtin b) g = none_listed (λ f h. known (meaning.Builtin b) refl h.0)
 
 module _ (m : Module) where
   abbrev pub unknown_in : (owner : Owner) (e : Expr) → Listing (IsUnknownIn m owner e)
@@ -205,12 +205,12 @@ module _ (m : Module) where
   early_from k i g false e = none_listed (λ f h. is_past k i e h.0)
 
   abbrev pub early_meaning_at : (k c : ℕ) (g : Finding) (r : NameMeaning) → Listing (EarlyMeaningAt k c g r)
-  early_meaning_at k c g (res.Func i) = like (equal_listed g) (λ f h. (tt, h)) (λ f h. h.1)
-  early_meaning_at k c g (res.Const i) = early_from k i g (nat_le k i) refl
-  early_meaning_at k c g (res.Class i) = early_from c i g (nat_le c i) refl
-  early_meaning_at k c g (res.Local x) = none_listed (λ f h. h.0)
-  early_meaning_at k c g (res.Builtin b) = none_listed (λ f h. h.0)
-  early_meaning_at k c g res.None = none_listed (λ f h. h.0)
+  early_meaning_at k c g (meaning.Func i) = like (equal_listed g) (λ f h. (tt, h)) (λ f h. h.1)
+  early_meaning_at k c g (meaning.Const i) = early_from k i g (nat_le k i) refl
+  early_meaning_at k c g (meaning.Class i) = early_from c i g (nat_le c i) refl
+  early_meaning_at k c g (meaning.Local x) = none_listed (λ f h. h.0)
+  early_meaning_at k c g (meaning.Builtin b) = none_listed (λ f h. h.0)
+  early_meaning_at k c g meaning.None = none_listed (λ f h. h.0)
 
   abbrev pub early_names : (k c : ℕ) (e : Expr) → Listing (IsEarlyName m k c e)
   early_names k c e = like (among_listed (filter_map name_of_tree (parts_in false e))

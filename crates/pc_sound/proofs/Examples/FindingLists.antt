@@ -24,7 +24,7 @@ use Rattle.pc_tree.specs.Depth.{place_of_ann, place_of}
 use Rattle.pc_scope.specs.declared.resolution.Owner.{Owner}
 use Rattle.pc_scope.specs.declared.resolution.Owner.TheVariants as owners
 use Rattle.pc_scope.specs.declared.resolution.NameMeaning.{NameMeaning}
-use Rattle.pc_scope.specs.declared.resolution.NameMeaning.TheVariants as res
+use Rattle.pc_scope.specs.declared.resolution.NameMeaning.TheVariants as meaning
 use Rattle.pc_scope.specs.Bindings.{texts}
 use Rattle.pc_scope.specs.Resolution.{locals, resolve_in_module}
 use Rattle.pc_scope.specs.Reach.{completes}
@@ -313,7 +313,7 @@ module _ (m : Module) (ctx : Context) where
 
   abbrev pub annotation_listed : (r : NameMeaning) (first : Test) (n : Name) (a : Ann)
       → Listing (AnnotationFinds m ctx r first n a)
-  annotation_listed (res.Local x) false n a = equal_listed (finding n.place E24)
+  annotation_listed (meaning.Local x) false n a = equal_listed (finding n.place E24)
   annotation_listed r first n a = ann_listed m ctx.bases a
 
   abbrev mutual

@@ -13,7 +13,7 @@ use Rattle.pc_tree.specs.Tree.{truth, nothing, tuple, list, dict, negative, bina
 use Rattle.pc_tree.specs.Tree.{is_none, is_not_none, conjunction, disjunction, call}
 use Rattle.pc_scope.specs.Expressions.{is_instance_test}
 use Rattle.pc_scope.specs.declared.resolution.NameMeaning.{NameMeaning}
-use Rattle.pc_scope.specs.declared.resolution.NameMeaning.TheVariants as res
+use Rattle.pc_scope.specs.declared.resolution.NameMeaning.TheVariants as meaning
 use Rattle.pc_types.specs.Tree.{Tree, Any, Object, Int, Bool, Str}
 use Rattle.pc_types.specs.Tree as tree
 use Rattle.pc_types.specs.Shape.{members}
@@ -51,7 +51,7 @@ use Rattle.pc_sound.proofs.Steps.SafeSteps.{stands_after, gives_injective, gives
 use Rattle.pc_sound.proofs.Steps.LeadingSteps.{Known, Promised}
 use Rattle.pc_sound.proofs.Steps.Frames.{narrowed_holds}
 use Rattle.pc_sound.proofs.Expressions.SimpleExpressions.{Covered, GoodEval, allowed}
-use Rattle.pc_sound.proofs.Settled.KeyedLabels.{Keyed}
+use Rattle.pc_sound.proofs.Regular.KeyedLabels.{Keyed}
 use Rattle.pc_sound.proofs.Values.Flows.{Evaluates, emit_evaluates, later_evaluates, first_evaluates}
 use Rattle.pc_sound.proofs.Calls.CallRules.{test_callee}
 use Rattle.pc_sound.proofs.Values.InstanceTests.{RightTests, IsRight, AsTold, passes_agree}
@@ -164,7 +164,7 @@ module _ (around : Around) (ctx : Context) (fits : IsContextOf around ctx) where
 
   -- a local that was tested
   tested_holds : (env : Env) (k : HeapTyping) (s : State) (n : Name) (x : ℕ) (v : Value) (test : Tested) (holds : Truth)
-      → IsWellTyped around env k s → ctx.resolve n.text ≡ res.Local x → value_of_meaning (meaning_in_run n.text s)
+      → IsWellTyped around env k s → ctx.resolve n.text ≡ meaning.Local x → value_of_meaning (meaning_in_run n.text s)
       ≡ Gives v → ((t : Tree) → current env x ≡ Some t → CanFollowAll test (members t)) → Answers around holds k test v
       → Hold (narrow_current around.bases holds test x env (current env x)) k s
   tested_holds env k s n x v test holds st local reads can answers = go (current env x) refl holds answers
@@ -187,14 +187,14 @@ module _ (around : Around) (ctx : Context) (fits : IsContextOf around ctx) where
 
   -- the facts that a test tells of the local that an expression is, if it is one
   pub test_tells : (env : Env) (k : HeapTyping) (s : State) (e : Expr) (v : Value) (test : Tested) (holds : Truth)
-      → IsWellTyped around env k s → IsReadAs e v s → ((n : Name) (x : ℕ) (t : Tree) → ctx.resolve n.text ≡ res.Local x
+      → IsWellTyped around env k s → IsReadAs e v s → ((n : Name) (x : ℕ) (t : Tree) → ctx.resolve n.text ≡ meaning.Local x
       → local_named ctx.resolve e ≡ Some x → current env x ≡ Some t → CanFollowAll test (members t))
-      → ((n : Name) (x : ℕ) → ctx.resolve n.text ≡ res.Local x → Answers around holds k test v)
+      → ((n : Name) (x : ℕ) → ctx.resolve n.text ≡ meaning.Local x → Answers around holds k test v)
       → Hold (narrow_local around.bases holds test (local_named ctx.resolve e) env) k s
   test_tells env k s (name n) v test holds st reads can answers = go (ctx.resolve n.text) refl
     where
       go : (r : NameMeaning) → ctx.resolve n.text ≡ r → Hold (narrow_local around.bases holds test (as_local r) env) k s
-      go (res.Local x) e = tested_holds env k s n x v test holds st e reads (λ t is. can n x t e (ap as_local e) is)
+      go (meaning.Local x) e = tested_holds env k s n x v test holds st e reads (λ t is. can n x t e (ap as_local e) is)
           (answers n x e)
       go _ e = st.locals
   test_tells env k s _ v test holds st reads can answers = st.locals
@@ -625,7 +625,7 @@ module _ (around : Around) (ctx : Context) (fits : IsContextOf around ctx) (part
             ≡ [] → Narrowed holds true (local_named ctx.resolve e) o k s
         go None named found = st.locals
         go (Some test) named found =
-            let right = λ (local : Name) (x : ℕ) (l : ctx.resolve local.text ≡ res.Local x). tests.right env k s st
+            let right = λ (local : Name) (x : ℕ) (l : ctx.resolve local.text ≡ meaning.Local x). tests.right env k s st
             local.text x l n.text test named tr.test tr.tested in
             let passed : passes s tr.operand tr.test ≡ holds = sym (truth_is s.heap (passes s tr.operand tr.test))
             ∙ (ap (is_true s.heap) (sym tr.is) ∙ is) in

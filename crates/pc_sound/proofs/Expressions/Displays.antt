@@ -34,7 +34,7 @@ use Rattle.pc_sound.proofs.Values.Joins.{all_hold}
 use Rattle.pc_sound.proofs.Heap.Heaps.{list_keeps}
 use Rattle.pc_sound.proofs.Heap.Dicts.{dict_keeps}
 use Rattle.pc_sound.proofs.Steps.SafeSteps.{Stays, bind_safe, comes_safe, emits_safe}
-use Rattle.pc_sound.proofs.Settled.KeyedLabels.{IsKeyed, Keyed, ItemsKeyed, EntriesKeyed}
+use Rattle.pc_sound.proofs.Regular.KeyedLabels.{IsKeyed, Keyed, ItemsKeyed, EntriesKeyed}
 use Rattle.pc_sound.proofs.Expressions.SimpleExpressions.{Covered, GoodEval, allowed}
 use Rattle.pc_sound.proofs.Values.Flows.{Evaluates}
 use Rattle.pc_sound.proofs.Values.UnionMembers.{HasEach, each_later}

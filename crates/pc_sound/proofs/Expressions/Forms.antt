@@ -9,7 +9,7 @@ use Rattle.pc_tree.specs.Depth.{place_of}
 use Rattle.pc_scope.specs.declared.resolution.Builtin.{Builtin}
 use Rattle.pc_scope.specs.declared.resolution.Builtin.TheVariants as builtin
 use Rattle.pc_scope.specs.declared.resolution.NameMeaning.{NameMeaning}
-use Rattle.pc_scope.specs.declared.resolution.NameMeaning.TheVariants as res
+use Rattle.pc_scope.specs.declared.resolution.NameMeaning.TheVariants as meaning
 use Rattle.pc_scope.specs.Expressions.{is_instance_test}
 use Rattle.pc_types.specs.Tree.{Tree}
 use Rattle.pc_flow.specs.Environment.{Env}
@@ -24,7 +24,7 @@ use Rattle.pc_machine.specs.Evaluation.{eval_node}
 use Rattle.pc_machine.specs.Free.{Step, free}
 use Rattle.pc_sound.specs.Values.{HasType}
 use Rattle.pc_sound.proofs.Steps.Judgment.{Around, IsSafe, IsContextOf}
-use Rattle.pc_sound.proofs.Settled.KeyedLabels.{Keyed}
+use Rattle.pc_sound.proofs.Regular.KeyedLabels.{Keyed}
 use Rattle.pc_sound.proofs.Expressions.SimpleExpressions.{Covered, GoodEval, number_safe, text_safe, truth_safe}
 use Rattle.pc_sound.proofs.Expressions.SimpleExpressions.{nothing_safe, negation_safe, is_none_safe, is_not_none_safe}
 use Rattle.pc_sound.proofs.Values.Flows.{Evaluates}
@@ -39,7 +39,7 @@ use Rattle.pc_sound.proofs.Calls.InstanceCalls.{instance_safe}
 
 -- a callee is no name of a built-in
 abbrev pub NotReserved : Context → Expr → Type 0
-NotReserved ctx (name n) = (b : Builtin) → ctx.resolve n.text ≡ res.Builtin b → ⊥
+NotReserved ctx (name n) = (b : Builtin) → ctx.resolve n.text ≡ meaning.Builtin b → ⊥
 NotReserved ctx _ = Unit {0}
 
 -- the other calls are safe: of functions, classes, methods and values
@@ -70,16 +70,16 @@ module _
           → Keyed (call p c args kws) m → SafeCall env p c args kws m
       by_callee (name n) m no_test law covered keyed = by_name (ctx.resolve n.text) refl
         where
-          other : ((b : Builtin) → ctx.resolve n.text ≡ res.Builtin b → ⊥) → SafeCall env p (name n) args kws m
+          other : ((b : Builtin) → ctx.resolve n.text ≡ meaning.Builtin b → ⊥) → SafeCall env p (name n) args kws m
           other unreserved = others.safe env want p (name n) args kws m unreserved no_test law covered keyed
 
-          not_callable_error : (b : Builtin) → ctx.resolve n.text ≡ res.Builtin b
+          not_callable_error : (b : Builtin) → ctx.resolve n.text ≡ meaning.Builtin b
               → ((g : GivenArguments) → builtin_callee g b ≡ value_callee (in_error E20))
               → SafeCall env p (name n) args kws m
           not_callable_error b is uncalled = not_callable around ctx fits knows parts good evaluates env b
               uncalled p n is want args kws m no_test law covered
 
-          by_builtin : (b : Builtin) → ctx.resolve n.text ≡ res.Builtin b → SafeCall env p (name n) args kws m
+          by_builtin : (b : Builtin) → ctx.resolve n.text ≡ meaning.Builtin b → SafeCall env p (name n) args kws m
           by_builtin builtin.Print is = print_safe around ctx fits knows parts good evaluates env want p n is args kws m
               law covered keyed
           by_builtin builtin.Str is = str_safe around ctx fits knows parts good evaluates env want p n is args kws m law
@@ -93,12 +93,12 @@ module _
           by_builtin b is = not_callable_error b is (λ g. refl)
 
           by_name : (r : NameMeaning) → ctx.resolve n.text ≡ r → SafeCall env p (name n) args kws m
-          by_name (res.Builtin b) is = by_builtin b is
-          by_name (res.Local x) is = other λ b e. absurd (grind (arith, sym is ∙ e))
-          by_name (res.Const x) is = other λ b e. absurd (grind (arith, sym is ∙ e))
-          by_name (res.Func x) is = other λ b e. absurd (grind (arith, sym is ∙ e))
-          by_name (res.Class x) is = other λ b e. absurd (grind (arith, sym is ∙ e))
-          by_name res.None is = other λ b e. absurd (grind (arith, sym is ∙ e))
+          by_name (meaning.Builtin b) is = by_builtin b is
+          by_name (meaning.Local x) is = other λ b e. absurd (grind (arith, sym is ∙ e))
+          by_name (meaning.Const x) is = other λ b e. absurd (grind (arith, sym is ∙ e))
+          by_name (meaning.Func x) is = other λ b e. absurd (grind (arith, sym is ∙ e))
+          by_name (meaning.Class x) is = other λ b e. absurd (grind (arith, sym is ∙ e))
+          by_name meaning.None is = other λ b e. absurd (grind (arith, sym is ∙ e))
       by_callee c m no_test law covered keyed = others.safe env want p c args kws m tt no_test law covered keyed
 
       by_test : (x : Test) → is_instance_test c args kws ≡ x → SafeCall env p c args kws m

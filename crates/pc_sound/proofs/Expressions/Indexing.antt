@@ -33,7 +33,7 @@ use Rattle.pc_sound.proofs.Steps.Judgment.{HasListed, Around, IsWellTyped, Keeps
 use Rattle.pc_sound.proofs.Lists.{not_empty}
 use Rattle.pc_sound.proofs.Values.ValuesFlow.{later, of_static}
 use Rattle.pc_sound.proofs.Steps.SafeSteps.{bind_safe, emits_safe, act_safe, gives_injective, gives_not_stops}
-use Rattle.pc_sound.proofs.Settled.KeyedLabels.{IsKeyed, Keyed, keyed_type, keyed_members}
+use Rattle.pc_sound.proofs.Regular.KeyedLabels.{IsKeyed, Keyed, keyed_type, keyed_members}
 use Rattle.pc_sound.proofs.Expressions.SimpleExpressions.{Covered, GoodEval, allowed, part}
 use Rattle.pc_sound.proofs.Values.Flows.{Evaluates}
 use Rattle.pc_sound.proofs.Values.Narrowing.{HasSome}

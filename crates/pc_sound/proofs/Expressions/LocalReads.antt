@@ -3,7 +3,7 @@ use Rattle.std.proofs.Common.{◌≡◌, ℕ, [], refl, sym, ap, ◌∙◌, subs
 use Rattle.std.specs.Prelude.{Option, Some, None}
 use Rattle.pc_source.specs.ReservedNames.{is_reserved}
 use Rattle.pc_tree.specs.Tree.{Name, name}
-use Rattle.pc_scope.specs.declared.resolution.NameMeaning.TheVariants as res
+use Rattle.pc_scope.specs.declared.resolution.NameMeaning.TheVariants as meaning
 use Rattle.pc_scope.specs.Resolution.{index_of}
 use Rattle.pc_types.specs.Tree.{Tree}
 use Rattle.pc_flow.specs.Environment.{Env, current}
@@ -33,7 +33,7 @@ module _ (around : Around) (ctx : Context) (parts : Parts Step) (env : Env) wher
       (meaning_of_local (meaning_of_global (is_reserved n.text) (global_by_name n.text s.globals)) m))) (sym l.is)
       l.now
 
-  pub local_safe : (n : Name) (x : ℕ) (m : Label) → ctx.resolve n.text ≡ res.Local x → index_of n.text around.names
+  pub local_safe : (n : Name) (x : ℕ) (m : Label) → ctx.resolve n.text ≡ meaning.Local x → index_of n.text around.names
       ≡ Some x → m ≡ name_label ctx env (ctx.resolve n.text) → AreListedCodes around.listed n.place m.codes
       → IsSafe around env (λ k. Unit {0}) (eval_node Step free parts (name n)) (λ k v. HasType around.bases k m.type v)
   local_safe n x m is named law allowed =

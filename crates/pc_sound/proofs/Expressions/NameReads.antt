@@ -12,7 +12,7 @@ use Rattle.pc_tree.specs.Tree.{Name, name}
 use Rattle.pc_scope.specs.declared.resolution.Builtin.{Builtin}
 use Rattle.pc_scope.specs.declared.resolution.Builtin.TheVariants as builtin
 use Rattle.pc_scope.specs.declared.resolution.NameMeaning.{NameMeaning}
-use Rattle.pc_scope.specs.declared.resolution.NameMeaning.TheVariants as res
+use Rattle.pc_scope.specs.declared.resolution.NameMeaning.TheVariants as meaning
 use Rattle.pc_scope.specs.Reserved.{reserved_builtins, beside, builtin_of}
 use Rattle.pc_scope.specs.Resolution.{index_of}
 use Rattle.pc_types.specs.Tree.{Tree}
@@ -45,15 +45,15 @@ pub record BoundValue (bases : Bases) (k : HeapTyping) (word : List ℕ) (global
 
 -- the facts known outside of a body of the names that it may name
 pub record KnowsNames (around : Around) (ctx : Context) : Type 0 where
-  pub constant : (word : List ℕ) (i : ℕ) (t : Tree) → ctx.resolve word ≡ res.Const i
+  pub constant : (word : List ℕ) (i : ℕ) (t : Tree) → ctx.resolve word ≡ meaning.Const i
       → slice_get ctx.constants i ≡ Some t → (k : HeapTyping) (made : List Class) (globals : Globals)
       → around.outside k made globals → BoundValue around.bases k word globals t
-  pub class : (word : List ℕ) (c : ℕ) → ctx.resolve word ≡ res.Class c → nat_lt c ctx.known ≡ true
+  pub class : (word : List ℕ) (c : ℕ) → ctx.resolve word ≡ meaning.Class c → nat_lt c ctx.known ≡ true
       → (k : HeapTyping) (made : List Class) (globals : Globals) → around.outside k made globals
       → global_by_name word globals ≡ Some (a_class c)
-  pub builtin : (word : List ℕ) (b : Builtin) → ctx.resolve word ≡ res.Builtin b → builtin_of word ≡ Some b
-  pub reserved : (word : List ℕ) (b : Builtin) → builtin_of word ≡ Some b → ctx.resolve word ≡ res.Builtin b
-  pub unbound : (word : List ℕ) (b : Builtin) → ctx.resolve word ≡ res.Builtin b
+  pub builtin : (word : List ℕ) (b : Builtin) → ctx.resolve word ≡ meaning.Builtin b → builtin_of word ≡ Some b
+  pub reserved : (word : List ℕ) (b : Builtin) → builtin_of word ≡ Some b → ctx.resolve word ≡ meaning.Builtin b
+  pub unbound : (word : List ℕ) (b : Builtin) → ctx.resolve word ≡ meaning.Builtin b
       → (k : HeapTyping) (made : List Class) (globals : Globals) → around.outside k made globals
       → global_by_name word globals ≡ None
 
@@ -117,7 +117,7 @@ reserved_text builtin.Tuple = refl
 
 module _ (around : Around) (ctx : Context) (fits : IsContextOf around ctx) where
   -- a name that means no local is none in the frame
-  pub no_local : (word : List ℕ) → ((x : ℕ) → ctx.resolve word ≡ res.Local x → ⊥)
+  pub no_local : (word : List ℕ) → ((x : ℕ) → ctx.resolve word ≡ meaning.Local x → ⊥)
       → (env : Env) (k : HeapTyping) (s : State) → IsWellTyped around env k s → local_by_name word s.frame ≡ None
   no_local word other env k s st = go (index_of word around.names) refl
     where
@@ -126,7 +126,7 @@ module _ (around : Around) (ctx : Context) (fits : IsContextOf around ctx) where
       go (Some x) e = absurd (other x (fits.named word x e))
 
   -- the meaning of a name of the module
-  pub meaning_outside : (word : List ℕ) → ((x : ℕ) → ctx.resolve word ≡ res.Local x → ⊥)
+  pub meaning_outside : (word : List ℕ) → ((x : ℕ) → ctx.resolve word ≡ meaning.Local x → ⊥)
       → (env : Env) (k : HeapTyping) (s : State) → IsWellTyped around env k s
       → meaning_in_run word s ≡ meaning_of_global (is_reserved word) (global_by_name word s.globals)
   meaning_outside word other env k s st =
@@ -134,19 +134,19 @@ module _ (around : Around) (ctx : Context) (fits : IsContextOf around ctx) where
       (no_local word other env k s st)
 
   module _ (knows : KnowsNames around ctx) (env : Env) where
-    const_no_local : (word : List ℕ) (i : ℕ) → ctx.resolve word ≡ res.Const i → (x : ℕ) → ctx.resolve word ≡ res.Local x
+    const_no_local : (word : List ℕ) (i : ℕ) → ctx.resolve word ≡ meaning.Const i → (x : ℕ) → ctx.resolve word ≡ meaning.Local x
         → ⊥
     const_no_local word i e x e' = absurd (grind (arith, sym e ∙ e'))
 
-    class_no_local : (word : List ℕ) (i : ℕ) → ctx.resolve word ≡ res.Class i → (x : ℕ) → ctx.resolve word ≡ res.Local x
+    class_no_local : (word : List ℕ) (i : ℕ) → ctx.resolve word ≡ meaning.Class i → (x : ℕ) → ctx.resolve word ≡ meaning.Local x
         → ⊥
     class_no_local word i e x e' = absurd (grind (arith, sym e ∙ e'))
 
-    builtin_no_local : (word : List ℕ) (b : Builtin) → ctx.resolve word ≡ res.Builtin b → (x : ℕ)
-        → ctx.resolve word ≡ res.Local x → ⊥
+    builtin_no_local : (word : List ℕ) (b : Builtin) → ctx.resolve word ≡ meaning.Builtin b → (x : ℕ)
+        → ctx.resolve word ≡ meaning.Local x → ⊥
     builtin_no_local word b e x e' = absurd (grind (arith, sym e ∙ e'))
 
-    pub means_constant : (word : List ℕ) (i : ℕ) (t : Tree) → ctx.resolve word ≡ res.Const i → slice_get ctx.constants i
+    pub means_constant : (word : List ℕ) (i : ℕ) (t : Tree) → ctx.resolve word ≡ meaning.Const i → slice_get ctx.constants i
         ≡ Some t → (k : HeapTyping) (s : State) → IsWellTyped around env k s
         → EndsWell (λ v. HasType around.bases k t v) (value_of_meaning (meaning_in_run word s))
     means_constant word i t e known k s st =
@@ -155,15 +155,15 @@ module _ (around : Around) (ctx : Context) (fits : IsContextOf around ctx) where
         (sym (meaning_outside word (const_no_local word i e) env k s st ∙ ap (meaning_of_global (is_reserved word))
         b.is)) b.has
 
-    pub means_a_class : (word : List ℕ) (c : ℕ) → ctx.resolve word ≡ res.Class c → nat_lt c ctx.known ≡ true
+    pub means_a_class : (word : List ℕ) (c : ℕ) → ctx.resolve word ≡ meaning.Class c → nat_lt c ctx.known ≡ true
         → (k : HeapTyping) (s : State) → IsWellTyped around env k s → meaning_in_run word s ≡ means_class c
     means_a_class word c e known k s st = meaning_outside word (class_no_local word c e) env k s st
         ∙ ap (meaning_of_global (is_reserved word)) (knows.class word c e known k s.classes s.globals st.outside)
 
-    pub reserved_is : (word : List ℕ) (b : Builtin) → ctx.resolve word ≡ res.Builtin b → word ≡ builtin_text b
+    pub reserved_is : (word : List ℕ) (b : Builtin) → ctx.resolve word ≡ meaning.Builtin b → word ≡ builtin_text b
     reserved_is word b e = text_of_builtin word b (knows.builtin word b e)
 
-    pub means_a_builtin : (word : List ℕ) (b : Builtin) → ctx.resolve word ≡ res.Builtin b
+    pub means_a_builtin : (word : List ℕ) (b : Builtin) → ctx.resolve word ≡ meaning.Builtin b
         → (k : HeapTyping) (s : State) → IsWellTyped around env k s → meaning_in_run word s ≡ means_reserved
     means_a_builtin word b e k s st =
         meaning_outside word (builtin_no_local word b e) env k s st
@@ -183,7 +183,7 @@ module _ (around : Around) (ctx : Context) (fits : IsContextOf around ctx) where
         absurd (not_empty (sym is ∙ h.1))
 
     constant_safe : (parts : Parts Step) (n : Name) (i : ℕ) (m : Label) (o : Option Tree)
-        → ctx.resolve n.text ≡ res.Const i → slice_get ctx.constants i ≡ o → m ≡ constant_label o
+        → ctx.resolve n.text ≡ meaning.Const i → slice_get ctx.constants i ≡ o → m ≡ constant_label o
         → Covered around (IsFoundAt n.place m.codes) → IsSafe around env (λ k. Unit {0})
         (eval_node Step free parts (name n)) (λ k v. HasType around.bases k m.type v)
     constant_safe parts n i m None is known law covered = name_found_safe parts n m E03 [] (ap (λ x. x.codes) law)
@@ -209,10 +209,10 @@ module _ (around : Around) (ctx : Context) (fits : IsContextOf around ctx) where
         go : (r : NameMeaning) → ctx.resolve n.text ≡ r → m ≡ name_label ctx env r
             → IsSafe around env (λ k. Unit {0}) (eval_node Step free parts (name n))
             (λ k v. HasType around.bases k m.type v)
-        go (res.Local x) is law' = local_safe around ctx parts env n x m is (fits.local n.text x is) law
+        go (meaning.Local x) is law' = local_safe around ctx parts env n x m is (fits.local n.text x is) law
             (allowed around n.place m.codes covered)
-        go (res.Const i) is law' = constant_safe parts n i m (slice_get ctx.constants i) is refl law' covered
-        go (res.Func i) is law' = late_or ctx.in_body E20 law'
-        go (res.Class c) is law' = late_or (nat_lt c ctx.known) E20 law'
-        go (res.Builtin b) is law' = name_found_safe parts n m E20 [] (ap (λ x. x.codes) law') covered
-        go res.None is law' = name_found_safe parts n m E02 [] (ap (λ x. x.codes) law') covered
+        go (meaning.Const i) is law' = constant_safe parts n i m (slice_get ctx.constants i) is refl law' covered
+        go (meaning.Func i) is law' = late_or ctx.in_body E20 law'
+        go (meaning.Class c) is law' = late_or (nat_lt c ctx.known) E20 law'
+        go (meaning.Builtin b) is law' = name_found_safe parts n m E20 [] (ap (λ x. x.codes) law') covered
+        go meaning.None is law' = name_found_safe parts n m E02 [] (ap (λ x. x.codes) law') covered

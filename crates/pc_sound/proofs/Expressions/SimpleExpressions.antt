@@ -22,7 +22,7 @@ use Rattle.pc_machine.specs.Free.{Step, free}
 use Rattle.pc_sound.specs.Values.{HeapTyping, HasType}
 use Rattle.pc_sound.specs.Silent.{IsSilentCode}
 use Rattle.pc_sound.proofs.Steps.Judgment.{AreListedCodes, Around, IsSafe}
-use Rattle.pc_sound.proofs.Settled.KeyedLabels.{Keyed}
+use Rattle.pc_sound.proofs.Regular.KeyedLabels.{Keyed}
 use Rattle.pc_sound.proofs.Steps.SafeSteps.{bind_safe, comes_safe, emits_safe, act_safe, weaken}
 
 -- each finding is a listed place, and its code is not silent everywhere

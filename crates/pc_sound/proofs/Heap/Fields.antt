@@ -31,7 +31,7 @@ use Rattle.pc_sound.proofs.Steps.Judgment.{Around, IsSafe, IsContextOf}
 use Rattle.pc_sound.proofs.Lists.{get_at_end, not_empty, same_text_back}
 use Rattle.pc_sound.proofs.Values.ValuesFlow.{later, extends_refl}
 use Rattle.pc_sound.proofs.Steps.SafeSteps.{bind_safe, emits_safe, looks_safe, act_safe}
-use Rattle.pc_sound.proofs.Settled.KeyedLabels.{Keyed}
+use Rattle.pc_sound.proofs.Regular.KeyedLabels.{Keyed}
 use Rattle.pc_sound.proofs.Expressions.SimpleExpressions.{Covered, GoodEval, allowed, part}
 use Rattle.pc_sound.proofs.Heap.Heaps.{write_keeps, place_keeps, grown}
 use Rattle.pc_sound.proofs.Heap.SeenValues.{SeesInstance, sees_instance}

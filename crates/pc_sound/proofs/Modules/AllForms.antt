@@ -3,7 +3,7 @@ use Rattle.std.proofs.Common.{◌≡◌, ℕ, List, refl}
 use Rattle.std.specs.Prelude.{codes, Some}
 use Rattle.pc_tree.specs.Tree.{Module}
 use Rattle.pc_scope.specs.declared.resolution.Builtin.TheVariants as builtin
-use Rattle.pc_scope.specs.declared.resolution.NameMeaning.TheVariants as res
+use Rattle.pc_scope.specs.declared.resolution.NameMeaning.TheVariants as meaning
 use Rattle.pc_scope.specs.Reserved.{builtin_of}
 use Rattle.pc_types.specs.Tree.{Tree}
 use Rattle.pc_module_rules.specs.Modules.{Labelling, constant_types}
@@ -40,7 +40,7 @@ module _ (m : Module) (labels : Labelling m) where
     pub tests : (b : BodyOf m labels) → RightTests (body_around m labels b) (body_ctx m labels b)
 
   module _ (facts : Facts m (constant_types m m.items labels) (IsListedPlace m)) (means : NamesMean) where
-    range_is : (b : BodyOf m labels) → (body_ctx m labels b).resolve (codes "range") ≡ res.Builtin builtin.Range
+    range_is : (b : BodyOf m labels) → (body_ctx m labels b).resolve (codes "range") ≡ meaning.Builtin builtin.Range
     range_is b = (means.knows b).reserved (codes "range") builtin.Range range_builtin
 
     other_calls : (n : ℕ) → AllGood m (bodies m labels) n → (b : BodyOf m labels)

@@ -5,7 +5,7 @@ use Rattle.std.proofs.lemmas.Option.{none-some, same_Some}
 use Rattle.pc_source.specs.declared.place.Place.{Place}
 use Rattle.pc_tree.specs.Tree.{FuncDef, Module}
 use Rattle.pc_scope.specs.declared.resolution.Owner.TheVariants as owners
-use Rattle.pc_scope.specs.declared.resolution.NameMeaning.TheVariants as res
+use Rattle.pc_scope.specs.declared.resolution.NameMeaning.TheVariants as meaning
 use Rattle.pc_scope.specs.Bindings.{functions_in, classes_in}
 use Rattle.pc_scope.specs.Resolution.{resolve_in_module}
 use Rattle.pc_types.specs.Tree.{Tree}
@@ -23,7 +23,7 @@ use Rattle.pc_machine.specs.Evaluation.{steps, call_callee}
 use Rattle.pc_sound.specs.Values.{HeapTyping, HasType}
 use Rattle.pc_sound.specs.Loaded.{DefaultsHave, MadeOf, IsLoaded}
 use Rattle.pc_sound.specs.Arguments.{Suits}
-use Rattle.pc_sound.specs.OutsideCalls.{IsReady, of_function, of_class, of_method, EndsAsPromised}
+use Rattle.pc_sound.specs.OutsideCalls.{IsReadyForCalls, of_function, of_class, of_method, EndsAsPromised}
 use Rattle.pc_sound.specs.OutsideCalls.{CallIsSound, CallsAreSound}
 use Rattle.pc_sound.specs.Silent.{HasNoSilentError}
 use Rattle.pc_sound.specs.Sound.{HasEvaluatedListed}
@@ -60,7 +60,7 @@ module _ (m : Module) (labels : Labelling m) (lawful : IsLawful m labels) (clean
   Outside = Caller m (inherits m) (IsListedPlace m) [] [] (IsLoaded m (constant_types m m.items labels))
       (λ k k' made globals grows w. world_later m (constant_types m m.items labels) k k' made globals grows w)
 
-  module _ (k : HeapTyping) (s : State) (ready : IsReady m labels k s) where
+  module _ (k : HeapTyping) (s : State) (ready : IsReadyForCalls m labels k s) where
     stands : IsWellTyped Outside [] k s
     stands = record {
       well = ready.well;
@@ -127,7 +127,7 @@ module _ (m : Module) (labels : Labelling m) (lawful : IsLawful m labels) (clean
           (suited_bound (bases_of m) k f.parameters (parameters_of m d.params) values named made.parameters suit)
           stands r)
 
-      class_called : (word : List ℕ) (c : ℕ) → resolve_in_module m word ≡ res.Class c
+      class_called : (word : List ℕ) (c : ℕ) → resolve_in_module m word ≡ meaning.Class c
           → Suits (bases_of m) k (class_facts_at (classes_of m) c).fields values named
           → Ends (calls_class c) (tree.Class c)
       class_called word c means suit r =

@@ -19,7 +19,7 @@ use Rattle.pc_tree.specs.Tree.{Constant, Exprs, no_exprs, more_exprs, Entries, n
 use Rattle.pc_tree.specs.Tree.{no_keywords, more_keywords, Item, constant_item, class_item, def_item, Module}
 use Rattle.pc_tree.specs.NamesAlone.{name_of_tree}
 use Rattle.pc_scope.specs.declared.resolution.NameMeaning.{NameMeaning}
-use Rattle.pc_scope.specs.declared.resolution.NameMeaning.TheVariants as res
+use Rattle.pc_scope.specs.declared.resolution.NameMeaning.TheVariants as meaning
 use Rattle.pc_scope.specs.Expressions.{is_instance_test, parts_in, parts_in_all, parts_in_entries, parts_in_keywords}
 use Rattle.pc_scope.specs.Bindings.{constants_in, classes_in}
 use Rattle.pc_scope.specs.Resolution.{resolve_in_module}
@@ -33,10 +33,10 @@ use Rattle.pc_rules.specs.Signatures.{initializer_context}
 use Rattle.pc_module_rules.specs.Modules.{Labelling, IsLawful, ModuleItemsLabels, BeforeItem, before_next, nothing_before}
 use Rattle.pc_sound.specs.Silent.{HasNoSilentError, tested}
 use Rattle.pc_sound.proofs.Lists.{get_at_end, one_longer}
-use Rattle.pc_sound.proofs.Settled.SettledParts.{tests_in_time}
-use Rattle.pc_sound.proofs.Settled.SettledLabels.{SecondTimely, Timely, ItemsTimely, EntriesTimely, KeywordsTimely}
+use Rattle.pc_sound.proofs.Regular.RegularParts.{tests_in_time}
+use Rattle.pc_sound.proofs.Regular.RegularLabels.{SecondTimely, Timely, ItemsTimely, EntriesTimely, KeywordsTimely}
 use Rattle.pc_sound.proofs.Modules.TimelyBodies.{own_timely}
-use Rattle.pc_sound.proofs.Settled.SettledInitializers.{InitializersTimely}
+use Rattle.pc_sound.proofs.Regular.RegularInitializers.{InitializersTimely}
 use Rattle.pc_sound.proofs.Modules.ModuleNames.{constants_append, classes_append}
 
 -- ---- names among expressions
@@ -195,24 +195,24 @@ past_end (x ∷ xs) (suc i) e = let h = past_end xs i e in omega (arith, h)
 -- a name of an initializer that is not early reads in time
 in_time : (m : Module) (constants : List Tree) (known : ℕ) (r : NameMeaning) → (IsEarlyMeaning (length constants) known r → ⊥)
     → (env : Env) → is_early (name_label (initializer_context m constants known) env r).codes ≡ false
-in_time m constants known (res.Local x) h env = of_local (current env x)
+in_time m constants known (meaning.Local x) h env = of_local (current env x)
   where
     of_local : (o : Option Tree) → is_early (local_label o).codes ≡ false
     of_local None = refl
     of_local (Some t) = refl
-in_time m constants known (res.Const i) h env = go (slice_get constants i) refl
+in_time m constants known (meaning.Const i) h env = go (slice_get constants i) refl
   where
     go : (o : Option Tree) → slice_get constants i ≡ o → is_early (constant_label o).codes ≡ false
     go None e = absurd (h (past_end constants i e))
     go (Some t) e = refl
-in_time m constants known (res.Func i) h env = absurd (h tt)
-in_time m constants known (res.Class c) h env = go (nat_lt c known) refl
+in_time m constants known (meaning.Func i) h env = absurd (h tt)
+in_time m constants known (meaning.Class c) h env = go (nat_lt c known) refl
   where
     go : (b : Test) → nat_lt c known ≡ b → is_early (if b then in_error E20 else in_error E03).codes ≡ false
     go true e = refl
     go false e = absurd (h (grind (arith, nat_tests, e)))
-in_time m constants known (res.Builtin b) h env = refl
-in_time m constants known res.None h env = refl
+in_time m constants known (meaning.Builtin b) h env = refl
+in_time m constants known meaning.None h env = refl
 
 module _ (m : Module) (labels : Labelling m) (lawful : IsLawful m labels) (clean : HasNoSilentError m) where
   none_early : (done : List Item) (p : Place) (c : Constant) (rest : List Item) → done ++ constant_item p c ∷ rest

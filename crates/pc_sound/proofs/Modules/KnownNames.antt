@@ -7,7 +7,7 @@ use Rattle.pc_tree.specs.Tree.{FuncDef, ClassDef, Item, constant_item, class_ite
 use Rattle.pc_scope.specs.declared.resolution.Builtin.{Builtin}
 use Rattle.pc_scope.specs.declared.resolution.Owner.{Owner}
 use Rattle.pc_scope.specs.declared.resolution.NameMeaning.{NameMeaning}
-use Rattle.pc_scope.specs.declared.resolution.NameMeaning.TheVariants as res
+use Rattle.pc_scope.specs.declared.resolution.NameMeaning.TheVariants as meaning
 use Rattle.pc_scope.specs.Reserved.{builtin_of}
 use Rattle.pc_tree.specs.Stopping.{bound_by}
 use Rattle.pc_scope.specs.Bindings.{texts, classes_in}
@@ -36,52 +36,52 @@ use Rattle.pc_sound.proofs.Modules.ModuleOrder.{around_items}
 
 -- ---- names of the module
 
-builtin_inj : {b c : Builtin} → res.Builtin b ≡ res.Builtin c → b ≡ c
+builtin_inj : {b c : Builtin} → meaning.Builtin b ≡ meaning.Builtin c → b ≡ c
 builtin_inj e = grind arith
 
 -- no name that the module binds is a built-in
 no_builtin : (k f c : ℕ) (items : List Item) (word : List ℕ) (b : Builtin) → or_meaning (bound_first k f c items word)
-    res.None ≡ res.Builtin b → ⊥
+    meaning.None ≡ meaning.Builtin b → ⊥
 no_builtin k f c [] word b e = absurd (grind (arith, e))
 no_builtin k f c (constant_item p i ∷ rest) word b e = go (bytes_eq i.name.text word) e
     (λ e'. no_builtin (suc k) f c rest word b e')
   where
-    go : (x : Test) → or_meaning (if x then Some (res.Const k) else bound_first (suc k) f c rest word) res.None
-        ≡ res.Builtin b → (or_meaning (bound_first (suc k) f c rest word) res.None ≡ res.Builtin b → ⊥) → ⊥
+    go : (x : Test) → or_meaning (if x then Some (meaning.Const k) else bound_first (suc k) f c rest word) meaning.None
+        ≡ meaning.Builtin b → (or_meaning (bound_first (suc k) f c rest word) meaning.None ≡ meaning.Builtin b → ⊥) → ⊥
     go true e others = absurd (grind (arith, e))
     go false e others = others e
 no_builtin k f c (def_item p i ∷ rest) word b e = go (bytes_eq i.name.text word) e
     (λ e'. no_builtin k (suc f) c rest word b e')
   where
-    go : (x : Test) → or_meaning (if x then Some (res.Func f) else bound_first k (suc f) c rest word) res.None
-        ≡ res.Builtin b → (or_meaning (bound_first k (suc f) c rest word) res.None ≡ res.Builtin b → ⊥) → ⊥
+    go : (x : Test) → or_meaning (if x then Some (meaning.Func f) else bound_first k (suc f) c rest word) meaning.None
+        ≡ meaning.Builtin b → (or_meaning (bound_first k (suc f) c rest word) meaning.None ≡ meaning.Builtin b → ⊥) → ⊥
     go true e others = absurd (grind (arith, e))
     go false e others = others e
 no_builtin k f c (class_item p i ∷ rest) word b e = go (bytes_eq i.name.text word) e
     (λ e'. no_builtin k f (suc c) rest word b e')
   where
-    go : (x : Test) → or_meaning (if x then Some (res.Class c) else bound_first k f (suc c) rest word) res.None
-        ≡ res.Builtin b → (or_meaning (bound_first k f (suc c) rest word) res.None ≡ res.Builtin b → ⊥) → ⊥
+    go : (x : Test) → or_meaning (if x then Some (meaning.Class c) else bound_first k f (suc c) rest word) meaning.None
+        ≡ meaning.Builtin b → (or_meaning (bound_first k f (suc c) rest word) meaning.None ≡ meaning.Builtin b → ⊥) → ⊥
     go true e others = absurd (grind (arith, e))
     go false e others = others e
 
 module _ (m : Module) where
   -- a name that means a built-in is reserved
-  builtin_known : (word : List ℕ) (b : Builtin) → resolve_in_module m word ≡ res.Builtin b → builtin_of word ≡ Some b
+  builtin_known : (word : List ℕ) (b : Builtin) → resolve_in_module m word ≡ meaning.Builtin b → builtin_of word ≡ Some b
   builtin_known word b e = go (builtin_of word) refl e
     where
       go : (o : Option Builtin) → builtin_of word ≡ o → or_meaning (builtin_meaning o)
-          (or_meaning (bound_first 0 0 0 m.items word) res.None) ≡ res.Builtin b → builtin_of word ≡ Some b
+          (or_meaning (bound_first 0 0 0 m.items word) meaning.None) ≡ meaning.Builtin b → builtin_of word ≡ Some b
       go (Some c) is e = is ∙ ap Some (builtin_inj e)
       go None is e = absurd (no_builtin 0 0 0 m.items word b e)
 
   -- and a reserved name means its built-in
-  reserved_means : (word : List ℕ) (b : Builtin) → builtin_of word ≡ Some b → resolve_in_module m word ≡ res.Builtin b
+  reserved_means : (word : List ℕ) (b : Builtin) → builtin_of word ≡ Some b → resolve_in_module m word ≡ meaning.Builtin b
   reserved_means word b e = ap (λ o. or_meaning (builtin_meaning o)
-      (or_meaning (bound_first 0 0 0 m.items word) res.None)) e
+      (or_meaning (bound_first 0 0 0 m.items word) meaning.None)) e
 
   abbrev IsOuter : NameMeaning → Type 0
-  IsOuter (res.Local x) = ⊥
+  IsOuter (meaning.Local x) = ⊥
   IsOuter _ = Unit {0}
 
   -- a name that is no local of a body means what it means in the module
@@ -93,7 +93,7 @@ module _ (m : Module) where
       go None e = e
       go (Some x) e = absurd (subst IsOuter (sym e) is)
 
-  class_within : (word : List ℕ) (c : ℕ) → resolve_in_module m word ≡ res.Class c
+  class_within : (word : List ℕ) (c : ℕ) → resolve_in_module m word ≡ meaning.Class c
       → nat_lt c (length (classes_in m.items)) ≡ true
   class_within word c r =
       let x = class_named m word c r in
@@ -157,25 +157,25 @@ module _ (m : Module) where
       pub body_names : KnowsNames (around_of m constants listed owner d lab) (context_of m constants listed owner d)
       body_names = record {
         constant = λ word i t r e k made globals w. let c = w.constant word i t
-            (outer (locals owner d) word (res.Const i) tt r) e in record { value = c.value; is = c.is; has = c.has };
-        class = λ word c r less k made globals w. w.class word c (outer (locals owner d) word (res.Class c) tt r);
-        builtin = λ word b r. builtin_known word b (outer (locals owner d) word (res.Builtin b) tt r);
+            (outer (locals owner d) word (meaning.Const i) tt r) e in record { value = c.value; is = c.is; has = c.has };
+        class = λ word c r less k made globals w. w.class word c (outer (locals owner d) word (meaning.Class c) tt r);
+        builtin = λ word b r. builtin_known word b (outer (locals owner d) word (meaning.Builtin b) tt r);
         reserved = λ word b e. ap (λ o. or_meaning (local_meaning o) (resolve_in_module m word))
             (is_none_of word (ap is_some e) [] (entry_texts owner d ++ texts (bound_by d.body)))
             ∙ reserved_means word b e;
         unbound = λ word b r k made globals w. w.reserved word b (builtin_known word b
-            (outer (locals owner d) word (res.Builtin b) tt r));
+            (outer (locals owner d) word (meaning.Builtin b) tt r));
       }
 
       pub body_ancestors : KnowsAncestors (around_of m constants listed owner d lab)
           (context_of m constants listed owner d)
       body_ancestors = record {
-        known = λ local x l word c r. class_within word c (outer (locals owner d) word (res.Class c) tt r);
+        known = λ local x l word c r. class_within word c (outer (locals owner d) word (meaning.Class c) tt r);
         descends = λ local x l word c r k made globals w. descended word c
-            (outer (locals owner d) word (res.Class c) tt r) k made globals w;
+            (outer (locals owner d) word (meaning.Class c) tt r) k made globals w;
       }
         where
-          descended : (word : List ℕ) (c : ℕ) → resolve_in_module m word ≡ res.Class c
+          descended : (word : List ℕ) (c : ℕ) → resolve_in_module m word ≡ meaning.Class c
               → (k : HeapTyping) (made : List Class) (globals : Globals) → IsLoaded m constants k made globals
               → Descends (bases_of m) made c
           descended word c r k made globals w =

@@ -36,7 +36,7 @@ use Rattle.pc_module_rules.proofs.Scopes.{said_is_found}
 use Rattle.pc_rules.specs.Labels.{IsCodeAt}
 use Rattle.pc_sound.specs.Silent.{HasNoSilentError}
 use Rattle.pc_sound.proofs.TruthValues.{not_both}
-use Rattle.pc_sound.proofs.Settled.KeyedLabels.{SuiteKeyed}
+use Rattle.pc_sound.proofs.Regular.KeyedLabels.{SuiteKeyed}
 use Rattle.pc_sound.proofs.Modules.MainWorld.{Labelled}
 use Rattle.pc_sound.proofs.Modules.ModuleItems.{last_of}
 use Rattle.pc_sound.proofs.Modules.WholeModule.{IsListedPlace}

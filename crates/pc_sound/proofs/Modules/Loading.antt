@@ -8,7 +8,7 @@ use Rattle.pc_module_rules.specs.Modules.{Labelling, IsLawful, constant_types}
 use Rattle.pc_value.specs.Value.{Out}
 use Rattle.pc_machine.specs.State.{State}
 use Rattle.pc_sound.specs.Values.{HeapTyping}
-use Rattle.pc_sound.specs.OutsideCalls.{IsReady}
+use Rattle.pc_sound.specs.OutsideCalls.{IsReadyForCalls}
 use Rattle.pc_sound.specs.Loading.{EndsLoaded, LoadingIsSound}
 use Rattle.pc_sound.specs.CallSequences.{CallSequencesAreSound}
 use Rattle.pc_sound.specs.Silent.{HasNoSilentError}
@@ -29,7 +29,7 @@ module _ (m : Module) (labels : Labelling m) (lawful : IsLawful m labels) (clean
 
   -- when the last item has run, the module can be called
   ready_at_end : (k : HeapTyping) (s : State) → Between m (IsListedPlace m) (Last m labels).constants
-      (functions_in m.items) (Last m labels).classes (Last m labels).names k s → IsReady m labels k s
+      (functions_in m.items) (Last m labels).classes (Last m labels).names k s → IsReadyForCalls m labels k s
   ready_at_end k s b = record {
     well = b.well;
     loaded = world_at_end m (constant_types m m.items labels) (IsListedPlace m) (Last m labels).constants
@@ -49,7 +49,7 @@ module _ (m : Module) (labels : Labelling m) (lawful : IsLawful m labels) (clean
   loaded events out after (inr a) = inr (record {
     typing = a.typing;
     ends = ends_as (λ u. Between m (IsListedPlace m) (Last m labels).constants (functions_in m.items)
-        (Last m labels).classes (Last m labels).names a.typing after) (λ u. IsReady m labels a.typing after) out
+        (Last m labels).classes (Last m labels).names a.typing after) (λ u. IsReadyForCalls m labels a.typing after) out
         (λ u b. ready_at_end a.typing after b) a.ends;
   })
 

@@ -13,7 +13,7 @@ use Rattle.pc_tree.specs.Stopping.{of_defs}
 use Rattle.pc_tree.specs.Tree.{Name, FuncDef, Member, field_member, method_member, ClassDef, class_item, Module}
 use Rattle.pc_scope.specs.declared.resolution.Owner.TheVariants as owners
 use Rattle.pc_scope.specs.declared.resolution.NameMeaning.{NameMeaning}
-use Rattle.pc_scope.specs.declared.resolution.NameMeaning.TheVariants as res
+use Rattle.pc_scope.specs.declared.resolution.NameMeaning.TheVariants as meaning
 use Rattle.pc_scope.specs.Bindings.{classes_in, methods_in}
 use Rattle.pc_scope.specs.Reserved.{is_builtin_name as is_reserved_name}
 use Rattle.pc_scope.specs.Resolution.{function_of, method_at, is_one_of, resolve_in_module}
@@ -119,24 +119,24 @@ methods_append m k (f ∷ fs) gs (q ∷ qs) rs h g = (h.0, methods_append m k fs
 
 -- a class before the one of a number
 pub record EarlierClass (c b : ℕ) (r : NameMeaning) : Type 0 where
-  pub is : r ≡ res.Class b
+  pub is : r ≡ meaning.Class b
   pub before : nat_lt b c ≡ true
 
 pub earlier_is : (c b : ℕ) (r : NameMeaning) → earlier_class c r ≡ Some b → EarlierClass c b r
-earlier_is c b (res.Class d) e = go (nat_lt d c) refl e
+earlier_is c b (meaning.Class d) e = go (nat_lt d c) refl e
   where
-    go : (x : Test) → nat_lt d c ≡ x → (if x then Some d else None) ≡ Some b → EarlierClass c b (res.Class d)
+    go : (x : Test) → nat_lt d c ≡ x → (if x then Some d else None) ≡ Some b → EarlierClass c b (meaning.Class d)
     go true is e = record {
-      is = ap res.Class (same_Some _ _ e);
+      is = ap meaning.Class (same_Some _ _ e);
       before = ap (λ n. nat_lt n c) (sym (same_Some _ _ e))
           ∙ is;
     }
     go false is e = absurd (grind (arith, e))
-earlier_is c b (res.Local n) e = absurd (grind (arith, e))
-earlier_is c b (res.Const n) e = absurd (grind (arith, e))
-earlier_is c b (res.Func n) e = absurd (grind (arith, e))
-earlier_is c b (res.Builtin n) e = absurd (grind (arith, e))
-earlier_is c b res.None e = absurd (grind (arith, e))
+earlier_is c b (meaning.Local n) e = absurd (grind (arith, e))
+earlier_is c b (meaning.Const n) e = absurd (grind (arith, e))
+earlier_is c b (meaning.Func n) e = absurd (grind (arith, e))
+earlier_is c b (meaning.Builtin n) e = absurd (grind (arith, e))
+earlier_is c b meaning.None e = absurd (grind (arith, e))
 
 module _ (m : Module) where
   -- a class is above the base
@@ -383,7 +383,7 @@ module _ (m : Module) (constants : List Tree) (listed : Place → Type 0) where
               (new_class m k n c is (run.class_at s.classes o) (subst (λ x. BaseMade m k x (run.class_at s.classes o)) e
               (base_made m k s.classes o λ d e'. class_before k s h d c.base (sym e ∙ e'))) own fields methods)
 
-          named : (word : List ℕ) → resolve_in_module m word ≡ res.Class n → c.name.text ≡ word
+          named : (word : List ℕ) → resolve_in_module m word ≡ meaning.Class n → c.name.text ≡ word
           named word r =
               let x = class_named m word n r in
               let behind = x.behind in

@@ -26,7 +26,7 @@ use Rattle.pc_sound.specs.Values.{HeapTyping, HasType, Extends}
 use Rattle.pc_sound.specs.Loaded.{IsOutsideHeap, DefaultHas, DefaultsHave, MadeOf, MethodsAre, ClassIs, IsLoaded}
 use Rattle.pc_sound.proofs.Steps.Judgment.{Around}
 use Rattle.pc_sound.proofs.Values.ValuesFlow.{later}
-use Rattle.pc_sound.proofs.Settled.KeyedLabels.{SuiteKeyed}
+use Rattle.pc_sound.proofs.Regular.KeyedLabels.{SuiteKeyed}
 
 module _ (m : Module) where
   -- ---- under other heap typings

@@ -12,7 +12,7 @@ use Rattle.pc_tree.specs.Tree.{Name, Expr, ClassDef, FuncDef, Param, Item, const
 use Rattle.pc_tree.specs.Stopping.{of_defs, is_plain_def, has_none}
 use Rattle.pc_tree.specs.Depth.{place_of}
 use Rattle.pc_scope.specs.declared.resolution.Owner.TheVariants as owners
-use Rattle.pc_scope.specs.declared.resolution.NameMeaning.TheVariants as res
+use Rattle.pc_scope.specs.declared.resolution.NameMeaning.TheVariants as meaning
 use Rattle.pc_scope.specs.Reserved.{builtin_of, is_builtin_name}
 use Rattle.pc_scope.specs.Bindings.{constants_in, classes_in, functions_in}
 use Rattle.pc_scope.specs.Resolution.{is_one_of, bound_first, or_meaning, builtin_meaning, resolve_in_module}
@@ -44,7 +44,7 @@ use Rattle.pc_sound.proofs.Lists.{get_at_end, one_longer, within}
 use Rattle.pc_sound.proofs.Steps.SafeSteps.{bind_safe, looks_safe, weaken}
 use Rattle.pc_sound.proofs.Expressions.SimpleExpressions.{GoodEval}
 use Rattle.pc_sound.proofs.Values.Flows.{Evaluates}
-use Rattle.pc_sound.proofs.Settled.KeyedLabels.{Keyed}
+use Rattle.pc_sound.proofs.Regular.KeyedLabels.{Keyed}
 use Rattle.pc_sound.proofs.Heap.Fields.{Inherits}
 use Rattle.pc_sound.proofs.Calls.OrdinaryCalls.{impossible_safe}
 use Rattle.pc_sound.proofs.Statements.WaysOut.{GoodExec}
@@ -126,7 +126,7 @@ module _ (m : Module) (constants : List Tree) (listed : Place → Type 0) where
         (fs ∙ sym (functions_append done (constant_item p c ∷ []) ∙ append-nil (functions_in done))) law.1
         (λ f h. clean f (inr h)) ready.1
       where
-        means : (word : List ℕ) → resolve_in_module m word ≡ res.Const (length b.constants) → c.name.text ≡ word
+        means : (word : List ℕ) → resolve_in_module m word ≡ meaning.Const (length b.constants) → c.name.text ≡ word
         means word r =
             let n = constant_named m word (length b.constants) r in
             let here : slice_get (constants_in m.items) (length (constants_in done)) ≡ Some c =
@@ -171,7 +171,7 @@ module _ (m : Module) (constants : List Tree) (listed : Place → Type 0) where
         here = ap (λ l. slice_get l (length (functions_in done))) (ap functions_in all
             ∙ functions_append done (def_item p d ∷ rest)) ∙ get_at_end (functions_in done) d (functions_in rest)
 
-        means : (word : List ℕ) → resolve_in_module m word ≡ res.Func (length defs) → d.name.text ≡ word
+        means : (word : List ℕ) → resolve_in_module m word ≡ meaning.Func (length defs) → d.name.text ≡ word
         means word r =
             let n = function_named m word (length defs) r in
             let behind = n.behind in
@@ -210,7 +210,7 @@ module _ (m : Module) (constants : List Tree) (listed : Place → Type 0) where
     number : ℕ
     at : ℕ
     function : FuncDef
-    bound : bound_first k f c items (codes "main") ≡ Some (res.Func number)
+    bound : bound_first k f c items (codes "main") ≡ Some (meaning.Func number)
     behind : number ≡ f + at
     is : slice_get (functions_in items) at ≡ Some function
     plain : has_none function.params ≡ true
@@ -225,7 +225,7 @@ module _ (m : Module) (constants : List Tree) (listed : Place → Type 0) where
         at = r.at;
         function = r.function;
         bound =
-            ap (λ b. if b then Some (res.Const k) else bound_first (suc k) f c rest (codes "main"))
+            ap (λ b. if b then Some (meaning.Const k) else bound_first (suc k) f c rest (codes "main"))
             (not-true (bytes_eq x.name.text (codes "main")) h.0) ∙ r.bound;
         behind = r.behind;
         is = r.is;
@@ -240,7 +240,7 @@ module _ (m : Module) (constants : List Tree) (listed : Place → Type 0) where
         at = r.at;
         function = r.function;
         bound =
-            ap (λ b. if b then Some (res.Class c) else bound_first k f (suc c) rest (codes "main"))
+            ap (λ b. if b then Some (meaning.Class c) else bound_first k f (suc c) rest (codes "main"))
             (not-true (bytes_eq x.name.text (codes "main")) h.0) ∙ r.bound;
         behind = r.behind;
         is = r.is;
@@ -259,7 +259,7 @@ module _ (m : Module) (constants : List Tree) (listed : Place → Type 0) where
         at = 0;
         function = x;
         bound =
-            ap (λ b. if b then Some (res.Func f) else bound_first k (suc f) c rest (codes "main")) t;
+            ap (λ b. if b then Some (meaning.Func f) else bound_first k (suc f) c rest (codes "main")) t;
         behind =
             omega arith;
         is = refl;
@@ -273,7 +273,7 @@ module _ (m : Module) (constants : List Tree) (listed : Place → Type 0) where
             at = suc r.at;
             function = r.function;
             bound =
-                ap (λ b. if b then Some (res.Func f) else bound_first k (suc f) c rest (codes "main")) t
+                ap (λ b. if b then Some (meaning.Func f) else bound_first k (suc f) c rest (codes "main")) t
                 ∙ r.bound;
             behind = omega arith;
             is = r.is;
@@ -287,7 +287,7 @@ module _ (m : Module) (constants : List Tree) (listed : Place → Type 0) where
   pub record MainIs : Type 0 where
     pub number : ℕ
     pub function : FuncDef
-    pub resolves : resolve_in_module m (codes "main") ≡ res.Func number
+    pub resolves : resolve_in_module m (codes "main") ≡ meaning.Func number
     pub is : slice_get (functions_in m.items) number ≡ Some function
     pub plain : function.params ≡ []
 
@@ -304,7 +304,7 @@ module _ (m : Module) (constants : List Tree) (listed : Place → Type 0) where
         number = r.number;
         function = r.function;
         resolves = ap (λ o. or_meaning (builtin_meaning o) (or_meaning (bound_first 0 0 0 m.items (codes "main"))
-            res.None)) main_free ∙ ap (λ o. or_meaning o res.None) r.bound;
+            meaning.None)) main_free ∙ ap (λ o. or_meaning o meaning.None) r.bound;
         is = ap (slice_get (functions_in m.items)) at ∙ r.is;
         plain = no_params r.function.params r.plain;
       }

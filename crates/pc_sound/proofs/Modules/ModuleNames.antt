@@ -5,7 +5,7 @@ use Rattle.std.proofs.lemmas.Slice.Eq.{bytes_eq-Decides}
 use Rattle.pc_tree.specs.Tree.{Constant, ClassDef, FuncDef, Item, constant_item, class_item, def_item, Module}
 use Rattle.pc_scope.specs.declared.resolution.Builtin.{Builtin}
 use Rattle.pc_scope.specs.declared.resolution.NameMeaning.{NameMeaning}
-use Rattle.pc_scope.specs.declared.resolution.NameMeaning.TheVariants as res
+use Rattle.pc_scope.specs.declared.resolution.NameMeaning.TheVariants as meaning
 use Rattle.pc_scope.specs.Reserved.{builtin_of}
 use Rattle.pc_scope.specs.Bindings.{constants_in, classes_in, functions_in}
 use Rattle.pc_scope.specs.Resolution.{bound_first, or_meaning, local_meaning, builtin_meaning, resolve_in_module}
@@ -78,23 +78,23 @@ pub record ConstantNamed (k f c : ℕ) (items : List Item) (word : List ℕ) (i 
   pub is : slice_get (constants_in items) at ≡ Some constant
   pub named : constant.name.text ≡ word
 
-const_inj : (i j : ℕ) → Some (res.Const i) ≡ Some (res.Const j) → i ≡ j
+const_inj : (i j : ℕ) → Some (meaning.Const i) ≡ Some (meaning.Const j) → i ≡ j
 const_inj i j e = grind arith
 
-func_inj : (i j : ℕ) → Some (res.Func i) ≡ Some (res.Func j) → i ≡ j
+func_inj : (i j : ℕ) → Some (meaning.Func i) ≡ Some (meaning.Func j) → i ≡ j
 func_inj i j e = grind arith
 
-class_inj : (i j : ℕ) → Some (res.Class i) ≡ Some (res.Class j) → i ≡ j
+class_inj : (i j : ℕ) → Some (meaning.Class i) ≡ Some (meaning.Class j) → i ≡ j
 class_inj i j e = grind arith
 
 constant_first : (k f c : ℕ) (items : List Item) (word : List ℕ) (i : ℕ) → bound_first k f c items word
-    ≡ Some (res.Const i) → ConstantNamed k f c items word i
+    ≡ Some (meaning.Const i) → ConstantNamed k f c items word i
 constant_first k f c [] word i e = absurd (grind (arith, e))
 constant_first k f c (constant_item p x ∷ rest) word i e = go (bytes_eq x.name.text word) refl e
     (constant_first (suc k) f c rest word i)
   where
-    go : (b : Test) → bytes_eq x.name.text word ≡ b → (if b then Some (res.Const k) else bound_first (suc k) f c rest
-        word) ≡ Some (res.Const i) → (bound_first (suc k) f c rest word ≡ Some (res.Const i)
+    go : (b : Test) → bytes_eq x.name.text word ≡ b → (if b then Some (meaning.Const k) else bound_first (suc k) f c rest
+        word) ≡ Some (meaning.Const i) → (bound_first (suc k) f c rest word ≡ Some (meaning.Const i)
         → ConstantNamed (suc k) f c rest word i) → ConstantNamed k f c (constant_item p x ∷ rest) word i
     go true t e others = record {
       at = 0;
@@ -108,8 +108,8 @@ constant_first k f c (constant_item p x ∷ rest) word i e = go (bytes_eq x.name
 constant_first k f c (def_item p x ∷ rest) word i e = go (bytes_eq x.name.text word) e
     (constant_first k (suc f) c rest word i)
   where
-    go : (b : Test) → (if b then Some (res.Func f) else bound_first k (suc f) c rest word) ≡ Some (res.Const i)
-        → (bound_first k (suc f) c rest word ≡ Some (res.Const i) → ConstantNamed k (suc f) c rest word i)
+    go : (b : Test) → (if b then Some (meaning.Func f) else bound_first k (suc f) c rest word) ≡ Some (meaning.Const i)
+        → (bound_first k (suc f) c rest word ≡ Some (meaning.Const i) → ConstantNamed k (suc f) c rest word i)
         → ConstantNamed k f c (def_item p x ∷ rest) word i
     go true e others = absurd (grind (arith, e))
     go false e others = let h = others e in record {
@@ -122,8 +122,8 @@ constant_first k f c (def_item p x ∷ rest) word i e = go (bytes_eq x.name.text
 constant_first k f c (class_item p x ∷ rest) word i e = go (bytes_eq x.name.text word) e
     (constant_first k f (suc c) rest word i)
   where
-    go : (b : Test) → (if b then Some (res.Class c) else bound_first k f (suc c) rest word) ≡ Some (res.Const i)
-        → (bound_first k f (suc c) rest word ≡ Some (res.Const i) → ConstantNamed k f (suc c) rest word i)
+    go : (b : Test) → (if b then Some (meaning.Class c) else bound_first k f (suc c) rest word) ≡ Some (meaning.Const i)
+        → (bound_first k f (suc c) rest word ≡ Some (meaning.Const i) → ConstantNamed k f (suc c) rest word i)
         → ConstantNamed k f c (class_item p x ∷ rest) word i
     go true e others = absurd (grind (arith, e))
     go false e others = let h = others e in record {
@@ -142,13 +142,13 @@ pub record FunctionNamed (k f c : ℕ) (items : List Item) (word : List ℕ) (i 
   pub named : function.name.text ≡ word
 
 function_first : (k f c : ℕ) (items : List Item) (word : List ℕ) (i : ℕ) → bound_first k f c items word
-    ≡ Some (res.Func i) → FunctionNamed k f c items word i
+    ≡ Some (meaning.Func i) → FunctionNamed k f c items word i
 function_first k f c [] word i e = absurd (grind (arith, e))
 function_first k f c (constant_item p x ∷ rest) word i e = go (bytes_eq x.name.text word) e
     (function_first (suc k) f c rest word i)
   where
-    go : (b : Test) → (if b then Some (res.Const k) else bound_first (suc k) f c rest word) ≡ Some (res.Func i)
-        → (bound_first (suc k) f c rest word ≡ Some (res.Func i) → FunctionNamed (suc k) f c rest word i)
+    go : (b : Test) → (if b then Some (meaning.Const k) else bound_first (suc k) f c rest word) ≡ Some (meaning.Func i)
+        → (bound_first (suc k) f c rest word ≡ Some (meaning.Func i) → FunctionNamed (suc k) f c rest word i)
         → FunctionNamed k f c (constant_item p x ∷ rest) word i
     go true e others = absurd (grind (arith, e))
     go false e others = let h = others e in record {
@@ -161,8 +161,8 @@ function_first k f c (constant_item p x ∷ rest) word i e = go (bytes_eq x.name
 function_first k f c (def_item p x ∷ rest) word i e = go (bytes_eq x.name.text word) refl e
     (function_first k (suc f) c rest word i)
   where
-    go : (b : Test) → bytes_eq x.name.text word ≡ b → (if b then Some (res.Func f) else bound_first k (suc f) c rest
-        word) ≡ Some (res.Func i) → (bound_first k (suc f) c rest word ≡ Some (res.Func i)
+    go : (b : Test) → bytes_eq x.name.text word ≡ b → (if b then Some (meaning.Func f) else bound_first k (suc f) c rest
+        word) ≡ Some (meaning.Func i) → (bound_first k (suc f) c rest word ≡ Some (meaning.Func i)
         → FunctionNamed k (suc f) c rest word i) → FunctionNamed k f c (def_item p x ∷ rest) word i
     go true t e others = record {
       at = 0;
@@ -176,8 +176,8 @@ function_first k f c (def_item p x ∷ rest) word i e = go (bytes_eq x.name.text
 function_first k f c (class_item p x ∷ rest) word i e = go (bytes_eq x.name.text word) e
     (function_first k f (suc c) rest word i)
   where
-    go : (b : Test) → (if b then Some (res.Class c) else bound_first k f (suc c) rest word) ≡ Some (res.Func i)
-        → (bound_first k f (suc c) rest word ≡ Some (res.Func i) → FunctionNamed k f (suc c) rest word i)
+    go : (b : Test) → (if b then Some (meaning.Class c) else bound_first k f (suc c) rest word) ≡ Some (meaning.Func i)
+        → (bound_first k f (suc c) rest word ≡ Some (meaning.Func i) → FunctionNamed k f (suc c) rest word i)
         → FunctionNamed k f c (class_item p x ∷ rest) word i
     go true e others = absurd (grind (arith, e))
     go false e others = let h = others e in record {
@@ -196,13 +196,13 @@ pub record ClassNamed (k f c : ℕ) (items : List Item) (word : List ℕ) (i : �
   pub named : class.name.text ≡ word
 
 class_first : (k f c : ℕ) (items : List Item) (word : List ℕ) (i : ℕ) → bound_first k f c items word
-    ≡ Some (res.Class i) → ClassNamed k f c items word i
+    ≡ Some (meaning.Class i) → ClassNamed k f c items word i
 class_first k f c [] word i e = absurd (grind (arith, e))
 class_first k f c (constant_item p x ∷ rest) word i e = go (bytes_eq x.name.text word) e
     (class_first (suc k) f c rest word i)
   where
-    go : (b : Test) → (if b then Some (res.Const k) else bound_first (suc k) f c rest word) ≡ Some (res.Class i)
-        → (bound_first (suc k) f c rest word ≡ Some (res.Class i) → ClassNamed (suc k) f c rest word i)
+    go : (b : Test) → (if b then Some (meaning.Const k) else bound_first (suc k) f c rest word) ≡ Some (meaning.Class i)
+        → (bound_first (suc k) f c rest word ≡ Some (meaning.Class i) → ClassNamed (suc k) f c rest word i)
         → ClassNamed k f c (constant_item p x ∷ rest) word i
     go true e others = absurd (grind (arith, e))
     go false e others = let h = others e in record {
@@ -216,8 +216,8 @@ class_first k f c (constant_item p x ∷ rest) word i e = go (bytes_eq x.name.te
 class_first k f c (def_item p x ∷ rest) word i e = go (bytes_eq x.name.text word) e
     (class_first k (suc f) c rest word i)
   where
-    go : (b : Test) → (if b then Some (res.Func f) else bound_first k (suc f) c rest word) ≡ Some (res.Class i)
-        → (bound_first k (suc f) c rest word ≡ Some (res.Class i) → ClassNamed k (suc f) c rest word i)
+    go : (b : Test) → (if b then Some (meaning.Func f) else bound_first k (suc f) c rest word) ≡ Some (meaning.Class i)
+        → (bound_first k (suc f) c rest word ≡ Some (meaning.Class i) → ClassNamed k (suc f) c rest word i)
         → ClassNamed k f c (def_item p x ∷ rest) word i
     go true e others = absurd (grind (arith, e))
     go false e others = let h = others e in record {
@@ -231,8 +231,8 @@ class_first k f c (def_item p x ∷ rest) word i e = go (bytes_eq x.name.text wo
 class_first k f c (class_item p x ∷ rest) word i e = go (bytes_eq x.name.text word) refl e
     (class_first k f (suc c) rest word i)
   where
-    go : (b : Test) → bytes_eq x.name.text word ≡ b → (if b then Some (res.Class c) else bound_first k f (suc c) rest
-        word) ≡ Some (res.Class i) → (bound_first k f (suc c) rest word ≡ Some (res.Class i)
+    go : (b : Test) → bytes_eq x.name.text word ≡ b → (if b then Some (meaning.Class c) else bound_first k f (suc c) rest
+        word) ≡ Some (meaning.Class i) → (bound_first k f (suc c) rest word ≡ Some (meaning.Class i)
         → ClassNamed k f (suc c) rest word i) → ClassNamed k f c (class_item p x ∷ rest) word i
     go true t e others = record {
       at = 0;
@@ -246,32 +246,32 @@ class_first k f c (class_item p x ∷ rest) word i e = go (bytes_eq x.name.text 
         record { at = suc h.at; class = h.class; behind = omega arith; is = h.is; named = h.named }
 
 -- a name that means a class where there are locals means the same class in the module
-pub outside_class : (o : Option ℕ) (r : NameMeaning) (i : ℕ) → or_meaning (local_meaning o) r ≡ res.Class i → r ≡ res.Class i
+pub outside_class : (o : Option ℕ) (r : NameMeaning) (i : ℕ) → or_meaning (local_meaning o) r ≡ meaning.Class i → r ≡ meaning.Class i
 outside_class None r i e = e
 outside_class (Some x) r i e = absurd (grind (arith, e))
 
 -- a name that the module binds is bound first by an item
-bound_so : (m : Module) (word : List ℕ) (r : NameMeaning) → ((b : Builtin) → r ≡ res.Builtin b → ⊥) → (r ≡ res.None → ⊥)
+bound_so : (m : Module) (word : List ℕ) (r : NameMeaning) → ((b : Builtin) → r ≡ meaning.Builtin b → ⊥) → (r ≡ meaning.None → ⊥)
     → resolve_in_module m word ≡ r → bound_first 0 0 0 m.items word ≡ Some r
 bound_so m word r not_builtin not_none e = go (builtin_of word) (bound_first 0 0 0 m.items word) refl e
   where
     go : (b : Option Builtin) (o : Option NameMeaning) → bound_first 0 0 0 m.items word ≡ o
-        → or_meaning (builtin_meaning b) (or_meaning o res.None) ≡ r → bound_first 0 0 0 m.items word ≡ Some r
+        → or_meaning (builtin_meaning b) (or_meaning o meaning.None) ≡ r → bound_first 0 0 0 m.items word ≡ Some r
     go (Some b) o is e = absurd (not_builtin b (sym e))
     go None None is e = absurd (not_none (sym e))
     go None (Some q) is e = is ∙ ap Some e
 
-pub constant_named : (m : Module) (word : List ℕ) (i : ℕ) → resolve_in_module m word ≡ res.Const i
+pub constant_named : (m : Module) (word : List ℕ) (i : ℕ) → resolve_in_module m word ≡ meaning.Const i
     → ConstantNamed 0 0 0 m.items word i
 constant_named m word i e = constant_first 0 0 0 m.items word i
-    (bound_so m word (res.Const i) (λ b f. grind (arith, f)) (λ f. grind (arith, f)) e)
+    (bound_so m word (meaning.Const i) (λ b f. grind (arith, f)) (λ f. grind (arith, f)) e)
 
-pub function_named : (m : Module) (word : List ℕ) (i : ℕ) → resolve_in_module m word ≡ res.Func i
+pub function_named : (m : Module) (word : List ℕ) (i : ℕ) → resolve_in_module m word ≡ meaning.Func i
     → FunctionNamed 0 0 0 m.items word i
 function_named m word i e = function_first 0 0 0 m.items word i
-    (bound_so m word (res.Func i) (λ b f. grind (arith, f)) (λ f. grind (arith, f)) e)
+    (bound_so m word (meaning.Func i) (λ b f. grind (arith, f)) (λ f. grind (arith, f)) e)
 
-pub class_named : (m : Module) (word : List ℕ) (i : ℕ) → resolve_in_module m word ≡ res.Class i
+pub class_named : (m : Module) (word : List ℕ) (i : ℕ) → resolve_in_module m word ≡ meaning.Class i
     → ClassNamed 0 0 0 m.items word i
-class_named m word i e = class_first 0 0 0 m.items word i (bound_so m word (res.Class i) (λ b f. grind (arith, f))
+class_named m word i e = class_first 0 0 0 m.items word i (bound_so m word (meaning.Class i) (λ b f. grind (arith, f))
     (λ f. grind (arith, f)) e)

@@ -18,7 +18,7 @@ use Rattle.pc_sound.specs.Silent.{default_places}
 use Rattle.pc_tree.specs.Tree.{Ann, Expr, Literal, number_literal, negative_literal, text_literal, truth_literal}
 use Rattle.pc_tree.specs.Tree.{none_literal, Param, Constant, ClassDef, FuncDef, constant_item, def_item, Module}
 use Rattle.pc_tree.specs.Depth.{place_of}
-use Rattle.pc_scope.specs.declared.resolution.NameMeaning.TheVariants as res
+use Rattle.pc_scope.specs.declared.resolution.NameMeaning.TheVariants as meaning
 use Rattle.pc_scope.specs.Reserved.{is_builtin_name}
 use Rattle.pc_scope.specs.Bindings.{classes_in}
 use Rattle.pc_scope.specs.Resolution.{is_one_of, resolve_in_module}
@@ -56,7 +56,7 @@ use Rattle.pc_sound.proofs.Values.ValuesFlow.{later, of_static}
 use Rattle.pc_sound.proofs.Steps.LeadingSteps.{Known, Promised, ends_as}
 use Rattle.pc_sound.proofs.Expressions.SimpleExpressions.{Covered, GoodEval}
 use Rattle.pc_sound.proofs.Values.Flows.{Evaluates, flow_safe}
-use Rattle.pc_sound.proofs.Settled.KeyedLabels.{Keyed}
+use Rattle.pc_sound.proofs.Regular.KeyedLabels.{Keyed}
 use Rattle.pc_sound.proofs.Statements.LocalBinding.{IsAtom, atom_flow, one_flow}
 use Rattle.pc_sound.proofs.Modules.MainWorld.{made_later, class_later}
 use Rattle.pc_sound.proofs.Steps.ModuleSteps.{Arrives, Proceeds, proceeds_bind, proceeds_comes, proceeds_changes}
@@ -73,11 +73,11 @@ module _ (m : Module) where
   -- classes, which have bound these names
   pub record BoundSoFar (types : List Tree) (defs : List FuncDef) (n : ℕ) (names : List (List ℕ)) (k : HeapTyping)
       (made : List Class) (globals : Globals) : Type 0 where
-    pub constant : (word : List ℕ) (i : ℕ) (t : Tree) → resolve_in_module m word ≡ res.Const i
+    pub constant : (word : List ℕ) (i : ℕ) (t : Tree) → resolve_in_module m word ≡ meaning.Const i
         → slice_get types i ≡ Some t → ConstantIs m k globals word t
-    pub function : (word : List ℕ) (i : ℕ) (d : FuncDef) → resolve_in_module m word ≡ res.Func i
+    pub function : (word : List ℕ) (i : ℕ) (d : FuncDef) → resolve_in_module m word ≡ meaning.Func i
         → slice_get defs i ≡ Some d → FunctionIs m k globals word d
-    pub class : (word : List ℕ) (c : ℕ) → resolve_in_module m word ≡ res.Class c → nat_lt c n ≡ true
+    pub class : (word : List ℕ) (c : ℕ) → resolve_in_module m word ≡ meaning.Class c → nat_lt c n ≡ true
         → global_by_name word globals ≡ Some (a_class c)
     pub classes : (c : ℕ) (t : ClassDef) → nat_lt c n ≡ true → slice_get (classes_in m.items) c ≡ Some t
         → ClassIs m k made c
@@ -118,7 +118,7 @@ module _ (m : Module) where
   -- one more constant
   pub bound_constant : (types : List Tree) (defs : List FuncDef) (n : ℕ) (names : List (List ℕ)) (k : HeapTyping)
       (made : List Class) (globals : Globals) (name : List ℕ) (t : Tree) (v : Value)
-      → ((word : List ℕ) → resolve_in_module m word ≡ res.Const (length types) → name ≡ word)
+      → ((word : List ℕ) → resolve_in_module m word ≡ meaning.Const (length types) → name ≡ word)
       → is_one_of name names ≡ false → is_builtin_name name ≡ false → HasType (bases_of m) k t v
       → BoundSoFar types defs n names k made globals → BoundSoFar (types ++ t ∷ []) defs n (name ∷ names) k made
       (globals ++ record { name = name; is = a_value v } ∷ [])
@@ -139,7 +139,7 @@ module _ (m : Module) where
     free = λ word e. still_free name word names unreserved (w.free word e) e;
   }
     where
-      constant : (word : List ℕ) (i : ℕ) (u : Tree) → resolve_in_module m word ≡ res.Const i
+      constant : (word : List ℕ) (i : ℕ) (u : Tree) → resolve_in_module m word ≡ meaning.Const i
           → slice_get (types ++ t ∷ []) i ≡ Some u → ConstantIs m k (globals ++ record { name = name; is = a_value v }
           ∷ []) word u
       constant word i u r e = elim (get_one_more types t i u e) [
@@ -150,7 +150,7 @@ module _ (m : Module) where
           has = c.has;
         }
         | inr here ↦
-            let same = means word (r ∙ ap res.Const here.0) in
+            let same = means word (r ∙ ap meaning.Const here.0) in
             record {
               value = v;
               is = bound_new word globals (record { name = name; is = a_value v })
@@ -163,7 +163,7 @@ module _ (m : Module) where
   -- one more function
   pub bound_function : (types : List Tree) (defs : List FuncDef) (n : ℕ) (names : List (List ℕ)) (k : HeapTyping)
       (made : List Class) (globals : Globals) (name : List ℕ) (d : FuncDef) (f : Function)
-      → ((word : List ℕ) → resolve_in_module m word ≡ res.Func (length defs) → name ≡ word)
+      → ((word : List ℕ) → resolve_in_module m word ≡ meaning.Func (length defs) → name ≡ word)
       → is_one_of name names ≡ false → is_builtin_name name ≡ false → MadeOf m k f d
       → BoundSoFar types defs n names k made globals → BoundSoFar types (defs ++ d ∷ []) n (name ∷ names) k made
       (globals ++ record { name = name; is = a_function f } ∷ [])
@@ -184,7 +184,7 @@ module _ (m : Module) where
     free = λ word e. still_free name word names unreserved (w.free word e) e;
   }
     where
-      function : (word : List ℕ) (i : ℕ) (e : FuncDef) → resolve_in_module m word ≡ res.Func i
+      function : (word : List ℕ) (i : ℕ) (e : FuncDef) → resolve_in_module m word ≡ meaning.Func i
           → slice_get (defs ++ d ∷ []) i ≡ Some e → FunctionIs m k (globals ++ record { name = name; is = a_function f }
           ∷ []) word e
       function word i e r at = elim (get_one_more defs d i e at) [
@@ -196,7 +196,7 @@ module _ (m : Module) where
               g.made;
         }
         | inr here ↦
-            let same = means word (r ∙ ap res.Func here.0) in
+            let same = means word (r ∙ ap meaning.Func here.0) in
             record {
               function = f;
               is = bound_new word globals (record { name = name; is = a_function f })
@@ -209,7 +209,7 @@ module _ (m : Module) where
   -- one more class
   pub bound_class : (types : List Tree) (defs : List FuncDef) (n : ℕ) (names : List (List ℕ)) (k : HeapTyping)
       (made : List Class) (globals : Globals) (name : List ℕ) (class : Class)
-      → ((word : List ℕ) → resolve_in_module m word ≡ res.Class n → name ≡ word) → is_one_of name names ≡ false
+      → ((word : List ℕ) → resolve_in_module m word ≡ meaning.Class n → name ≡ word) → is_one_of name names ≡ false
       → is_builtin_name name ≡ false → ((c : ℕ) (t : ClassDef) → nat_lt c (suc n) ≡ true
       → slice_get (classes_in m.items) c ≡ Some t → ClassIs m k (made ++ class ∷ []) c) → length (made ++ class ∷ [])
       ≡ suc n → BoundSoFar types defs n names k made globals → BoundSoFar types defs (suc n) (name ∷ names) k
@@ -239,14 +239,14 @@ module _ (m : Module) where
       last : (c : ℕ) → nat_lt c n ≡ false → nat_lt c (suc n) ≡ true → c ≡ n
       last c e f = grind (arith, nat_tests, e, f)
 
-      go : (word : List ℕ) (c : ℕ) → resolve_in_module m word ≡ res.Class c → (b : Test) → nat_lt c n ≡ b
+      go : (word : List ℕ) (c : ℕ) → resolve_in_module m word ≡ meaning.Class c → (b : Test) → nat_lt c n ≡ b
           → nat_lt c (suc n) ≡ true → global_by_name word (globals ++ record { name = name; is = a_class (length made) }
           ∷ []) ≡ Some (a_class c)
       go word c r true e l = bound_more word globals (record { name = name; is = a_class (length made) }) (a_class c)
           (w.class word c r e)
       go word c r false e l =
           let here = last c e l in
-          let same = means word (r ∙ ap res.Class here) in
+          let same = means word (r ∙ ap meaning.Class here) in
           bound_new word globals (record { name = name; is = a_class (length made) })
           (subst (λ x. global_by_name x globals ≡ None) same (w.fresh name new)) same
           ∙ ap (λ x. Some (a_class x)) (w.count ∙ sym here)
@@ -433,7 +433,7 @@ module _ (m : Module) where
       -- a def binds its name
       pub def_proceeds : (p : Place) (d : FuncDef) (labels : ParamsLabels d.params) → LawfulParams m [] d.params labels
           → ParametersBind [] d.params → Listed (ParamsFind m d.params labels) → OfDefaults (param_defaults_in d)
-          → ((word : List ℕ) → resolve_in_module m word ≡ res.Func (length defs) → d.name.text ≡ word)
+          → ((word : List ℕ) → resolve_in_module m word ≡ meaning.Func (length defs) → d.name.text ≡ word)
           → is_one_of d.name.text names ≡ false → is_builtin_name d.name.text ≡ false
           → Proceeds listed (λ k s. Between types defs n names k s) (exec_item Step free parts imports (def_item p d))
           (λ k u s. Between types (defs ++ d ∷ []) n (d.name.text ∷ names) k s)
@@ -455,7 +455,7 @@ module _ (m : Module) where
           → Lawful (initializer_context m types n) [] [] (first_of_types (annotated_types m true c.annotation)) c.value
           labels → FlowsInto (bases_of m) (whole_label c.value labels) (annotated_types m true c.annotation) flows
           → Listed (λ f. IsFlowAt (place_of c.value) flows f ⊎ Finds c.value labels f) → Keyed c.value labels
-          → ((word : List ℕ) → resolve_in_module m word ≡ res.Const (length types) → c.name.text ≡ word)
+          → ((word : List ℕ) → resolve_in_module m word ≡ meaning.Const (length types) → c.name.text ≡ word)
           → is_one_of c.name.text names ≡ false → is_builtin_name c.name.text ≡ false
           → Proceeds listed (λ k s. Between types defs n names k s)
           (exec_item Step free parts imports (constant_item p c))

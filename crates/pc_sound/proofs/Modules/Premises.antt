@@ -16,7 +16,7 @@ use Rattle.pc_tree.specs.Stopping.{name_of_item}
 use Rattle.pc_scope.specs.declared.resolution.Owner.{Owner}
 use Rattle.pc_scope.specs.declared.resolution.Owner.TheVariants as owners
 use Rattle.pc_scope.specs.declared.resolution.NameMeaning.{NameMeaning}
-use Rattle.pc_scope.specs.declared.resolution.NameMeaning.TheVariants as res
+use Rattle.pc_scope.specs.declared.resolution.NameMeaning.TheVariants as meaning
 use Rattle.pc_scope.specs.Bindings.{as_method, constants_in, classes_in, functions_in, methods_in}
 use Rattle.pc_scope.specs.Reserved.{is_builtin_name}
 use Rattle.pc_scope.specs.Resolution.{is_one_of, index_of, locals, function_of, local_meaning, or_meaning}
@@ -39,10 +39,10 @@ use Rattle.pc_sound.specs.Silent.{HasNoSilentError, IsSilent, shape, bare, bare_
 use Rattle.pc_sound.specs.Sound.{HasEvaluatedListed}
 use Rattle.pc_sound.proofs.Lists.{get_at_end, one_longer, within}
 use Rattle.pc_sound.proofs.Modules.ClassPremises.{names_behind, names_last, among_behind}
-use Rattle.pc_sound.proofs.Settled.SettledParts.{tests_in_time}
-use Rattle.pc_sound.proofs.Settled.KeyedLabels.{IsKeyed, SuiteKeyed, InitializersKeyed}
+use Rattle.pc_sound.proofs.Regular.RegularParts.{tests_in_time}
+use Rattle.pc_sound.proofs.Regular.KeyedLabels.{IsKeyed, SuiteKeyed, InitializersKeyed}
 use Rattle.pc_sound.proofs.Modules.TimelyBodies.{NamesTimely}
-use Rattle.pc_sound.proofs.Settled.SettledFunctions.{OwnerAsked, function_settled}
+use Rattle.pc_sound.proofs.Regular.RegularFunctions.{OwnerAsked, function_regular}
 use Rattle.pc_sound.proofs.Modules.PlacesInModules.{function_places}
 use Rattle.pc_sound.proofs.Modules.Inheritance.{inherits}
 use Rattle.pc_sound.proofs.Calls.OverridesFit.{HasShapes, shapes_or_not, IsAllowedOverride, AreJudged, dispatched}
@@ -64,7 +64,7 @@ use Rattle.pc_sound.proofs.Modules.LabelledBodies.{last_types_are, last_classes_
 use Rattle.pc_sound.proofs.Modules.UniqueNames.{AllBind, parameters_bind, parameters_distinct, items_bind}
 use Rattle.pc_sound.proofs.Modules.UniqueNames.{function_binds}
 
-outside_const : (o : Option ℕ) (r : NameMeaning) (i : ℕ) → or_meaning (local_meaning o) r ≡ res.Const i → r ≡ res.Const i
+outside_const : (o : Option ℕ) (r : NameMeaning) (i : ℕ) → or_meaning (local_meaning o) r ≡ meaning.Const i → r ≡ meaning.Const i
 outside_const None r i e = e
 outside_const (Some x) r i e = absurd (grind (arith, e))
 
@@ -227,7 +227,7 @@ module _ (m : Module) (labels : Labelling m) (lawful : IsLawful m labels) (clean
     body_keyed : (owner : Owner) (d : FuncDef) → function_of m owner ≡ Some d → (fm : FunctionLabels d)
         → ((f : Finding) → FunctionFinds m (constant_types m m.items labels) owner d fm f → IsFinding m f)
         → LawfulFunction m (constant_types m m.items labels) owner d fm → SuiteKeyed d.body fm.body
-    body_keyed owner d e fm found law = function_settled tests_in_time m (λ word c e. tt)
+    body_keyed owner d e fm found law = function_regular tests_in_time m (λ word c e. tt)
         (constant_types m m.items labels) left.constants_keyed owner (none_asked owner) d (names_timely owner d) fm
         (λ f h wrong here. clean f (found f (inr (inr (inr h))))
         (bare wrong (function_places m bare_returns_in_def owner d f.place e here))) law

@@ -13,9 +13,9 @@ use Rattle.pc_sound.specs.Sound.{Sound, SoundBesideErrors}
 use Rattle.pc_sound.proofs.Modules.WholeModule.{IsListedPlace}
 use Rattle.pc_sound.proofs.Modules.ClassesAreReady.{classes_ready}
 use Rattle.pc_sound.proofs.Modules.DistinctMembers.{fields_distinct, methods_distinct}
-use Rattle.pc_sound.proofs.Settled.SettledParts.{tests_in_time}
-use Rattle.pc_sound.proofs.Settled.SettledInitializers.{initializers_are_settled}
-use Rattle.pc_sound.proofs.Settled.SettledInitializers.{constants_are_settled}
+use Rattle.pc_sound.proofs.Regular.RegularParts.{tests_in_time}
+use Rattle.pc_sound.proofs.Regular.RegularInitializers.{initializers_are_regular}
+use Rattle.pc_sound.proofs.Regular.RegularInitializers.{constants_are_regular}
 use Rattle.pc_sound.proofs.Modules.EarlyNames.{initializers_timely}
 use Rattle.pc_sound.proofs.Modules.Premises.{Left, sound_but_for}
 
@@ -28,8 +28,8 @@ left_of m labels lawful clean =
       classes = classes_ready m labels lawful clean (constant_types m m.items labels) (IsListedPlace m);
       distinct_fields = fields_distinct m labels lawful clean;
       distinct_methods = methods_distinct m labels lawful clean;
-      constants_keyed = constants_are_settled tests_in_time m (λ word c e. tt) labels lawful timely;
-      initializers_keyed = initializers_are_settled tests_in_time m (λ word c e. tt) labels lawful timely;
+      constants_keyed = constants_are_regular tests_in_time m (λ word c e. tt) labels lawful timely;
+      initializers_keyed = initializers_are_regular tests_in_time m (λ word c e. tt) labels lawful timely;
     }
 
 -- the law beside errors

@@ -10,7 +10,7 @@ use Rattle.pc_tree.specs.Tree.{disjunction, attribute, index, call, no_exprs, mo
 use Rattle.pc_tree.specs.Tree.{no_keywords, more_keywords}
 use Rattle.pc_scope.specs.Expressions.{is_instance_test}
 use Rattle.pc_scope.specs.declared.resolution.NameMeaning.{NameMeaning}
-use Rattle.pc_scope.specs.declared.resolution.NameMeaning.TheVariants as res
+use Rattle.pc_scope.specs.declared.resolution.NameMeaning.TheVariants as meaning
 use Rattle.pc_types.specs.Tree.{Tree}
 use Rattle.pc_flow.specs.Environment.{Env, current}
 use Rattle.pc_rules.specs.Operations.{in_error}
@@ -18,16 +18,16 @@ use Rattle.pc_rules.specs.Context.{Context, local_label, constant_label, name_la
 use Rattle.pc_rules.specs.Labels.{Labels, whole_label}
 use Rattle.pc_rules.specs.Lawful.{Lawful}
 use Rattle.pc_rules.proofs.Silent.{silent_punctual, own_silent}
-use Rattle.pc_sound.proofs.Settled.SettledParts.{Asked, tests_in_time, classes_below, TestsAsked}
-use Rattle.pc_sound.proofs.Settled.SettledLabels.{SecondTimely, TestTimely, Timely, ItemsTimely, EntriesTimely}
-use Rattle.pc_sound.proofs.Settled.SettledLabels.{KeywordsTimely}
+use Rattle.pc_sound.proofs.Regular.RegularParts.{Asked, tests_in_time, classes_below, TestsAsked}
+use Rattle.pc_sound.proofs.Regular.RegularLabels.{SecondTimely, TestTimely, Timely, ItemsTimely, EntriesTimely}
+use Rattle.pc_sound.proofs.Regular.RegularLabels.{KeywordsTimely}
 
 -- the constants and classes that the names of a body mean are there
 pub record NamesTimely (ctx : Context) : Type 0 where
   pub in_body : ctx.in_body ≡ true
-  pub constants : (word : List ℕ) (i : ℕ) → ctx.resolve word ≡ res.Const i → (t : Tree)
+  pub constants : (word : List ℕ) (i : ℕ) → ctx.resolve word ≡ meaning.Const i → (t : Tree)
       × (slice_get ctx.constants i ≡ Some t)
-  pub classes : (word : List ℕ) (c : ℕ) → ctx.resolve word ≡ res.Class c → nat_lt c ctx.known ≡ true
+  pub classes : (word : List ℕ) (c : ℕ) → ctx.resolve word ≡ meaning.Class c → nat_lt c ctx.known ≡ true
 
 abbrev OnTime : List Code → Type 0
 OnTime cs = is_early cs ≡ false
@@ -81,17 +81,17 @@ module _ (ctx : Context) (declared : List Tree) where
     either_error false e = absurd (grind (arith, e))
 
     name_timely : (env : Env) (word : List ℕ) (r : NameMeaning) → ctx.resolve word ≡ r → OnTime (name_label ctx env r).codes
-    name_timely env word (res.Local x) is = go (current env x)
+    name_timely env word (meaning.Local x) is = go (current env x)
       where
         go : (o : Option Tree) → OnTime (local_label o).codes
         go None = refl
         go (Some t) = refl
-    name_timely env word (res.Const i) is = let k = there.constants word i is in
+    name_timely env word (meaning.Const i) is = let k = there.constants word i is in
         subst (λ o. OnTime (constant_label o).codes) (sym k.1) refl
-    name_timely env word (res.Func i) is = either_error ctx.in_body there.in_body
-    name_timely env word (res.Class c) is = either_error (nat_lt c ctx.known) (there.classes word c is)
-    name_timely env word (res.Builtin b) is = refl
-    name_timely env word res.None is = refl
+    name_timely env word (meaning.Func i) is = either_error ctx.in_body there.in_body
+    name_timely env word (meaning.Class c) is = either_error (nat_lt c ctx.known) (there.classes word c is)
+    name_timely env word (meaning.Builtin b) is = refl
+    name_timely env word meaning.None is = refl
 
     -- no label has E03
     pub never_early : (env : Env) (want : Option Tree) (e : Expr) (m : Labels e) → Lawful ctx declared env want e m

@@ -24,7 +24,7 @@ use Rattle.pc_sound.proofs.Steps.Judgment.{Around, IsWellTyped, IsContextOf, Lea
 use Rattle.pc_sound.proofs.Steps.Judgment.{FlowEnds, Lasts}
 use Rattle.pc_tree.proofs.Among.{among_first, none_among}
 use Rattle.pc_sound.proofs.Expressions.SimpleExpressions.{Covered}
-use Rattle.pc_sound.proofs.Settled.KeyedLabels.{StmtKeyed, SuiteKeyed, BranchesKeyed}
+use Rattle.pc_sound.proofs.Regular.KeyedLabels.{StmtKeyed, SuiteKeyed, BranchesKeyed}
 use Rattle.pc_sound.proofs.Expressions.Conditions.{Decides}
 use Rattle.pc_sound.proofs.Steps.JoinedLocals.{SomeHolds, ways_hold}
 use Rattle.pc_sound.proofs.Steps.LeadingSteps.{leads_from, leads_to}

@@ -28,7 +28,7 @@ use Rattle.pc_sound.proofs.Lists.{not_empty}
 use Rattle.pc_sound.proofs.Values.ValuesFlow.{later}
 use Rattle.pc_sound.proofs.Values.Narrowing.{to_members}
 use Rattle.pc_sound.proofs.Steps.SafeSteps.{bind_safe, comes_safe, emits_safe, weaken}
-use Rattle.pc_sound.proofs.Settled.KeyedLabels.{Keyed, TargetKeyed}
+use Rattle.pc_sound.proofs.Regular.KeyedLabels.{Keyed, TargetKeyed}
 use Rattle.pc_sound.proofs.Expressions.SimpleExpressions.{Covered, GoodEval, allowed, part}
 use Rattle.pc_sound.proofs.Values.Flows.{Evaluates}
 use Rattle.pc_sound.proofs.Values.UnionMembers.{HasEach, each_later, all_any}

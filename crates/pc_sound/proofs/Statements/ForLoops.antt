@@ -8,7 +8,7 @@ use Rattle.pc_tree.specs.Code.{finding}
 use Rattle.pc_tree.specs.Tree.{Name, Expr, for_loop, Stmts, Module}
 use Rattle.pc_tree.specs.Stopping.{bound_by, loose_in}
 use Rattle.pc_tree.specs.Depth.{place_of}
-use Rattle.pc_scope.specs.declared.resolution.NameMeaning.TheVariants as res
+use Rattle.pc_scope.specs.declared.resolution.NameMeaning.TheVariants as meaning
 use Rattle.pc_types.specs.Tree.{Tree}
 use Rattle.pc_types.specs.Below.{Bases}
 use Rattle.pc_flow.specs.Environment.{Env, declared_type, assign, assigned_type, loop_head}
@@ -34,7 +34,7 @@ use Rattle.pc_sound.proofs.Lists.{not_empty}
 use Rattle.pc_sound.proofs.Values.ValuesFlow.{of_static}
 use Rattle.pc_sound.proofs.Expressions.SimpleExpressions.{Covered}
 use Rattle.pc_sound.proofs.Values.Flows.{Evaluates}
-use Rattle.pc_sound.proofs.Settled.KeyedLabels.{Keyed, StmtKeyed, SuiteKeyed}
+use Rattle.pc_sound.proofs.Regular.KeyedLabels.{Keyed, StmtKeyed, SuiteKeyed}
 use Rattle.pc_sound.proofs.Statements.LoopHeads.{into_head}
 use Rattle.pc_sound.proofs.Steps.LeadingSteps.{ends_as, leads_bind, leads_comes, leads_binds, leads_act, leads_from}
 use Rattle.pc_sound.proofs.Steps.LeadingSteps.{leads_to, leads_each, leads_safe}
@@ -86,7 +86,7 @@ module _ (around : Around) (ctx : Context) (fits : IsContextOf around ctx) (m : 
   -- the turns of a `for` run as it is labelled
   pub record GoodTurns (turns : Iteration → ℕ → List ℕ → Stmts → Step StatementEnd) : Type 1 where
     pub runs : (seen : NamesBound) (n : Name) (x : ℕ) (t u : Tree) (b : Stmts) (bm : SuiteLabels b) (out : Option Env)
-        (env head : Env) (over : Iteration) (i : ℕ) → ctx.resolve n.text ≡ res.Local x
+        (env head : Env) (over : Iteration) (i : ℕ) → ctx.resolve n.text ≡ meaning.Local x
         → head ≡ loop_head (binds_number ctx.resolve (n ∷ bound_by b)) around.declared env
         → ((k : HeapTyping) (v : Value) → HasType around.bases k t v → HasType around.bases k u v
         × HasType around.bases k (declared_type around.declared x) v)
@@ -104,7 +104,7 @@ module _ (around : Around) (ctx : Context) (fits : IsContextOf around ctx) (m : 
   for_turn_runs exec turns good further = record { runs = go }
     where
       go : (seen : NamesBound) (n : Name) (x : ℕ) (t u : Tree) (b : Stmts) (bm : SuiteLabels b) (out : Option Env)
-          (env head : Env) (over : Iteration) (i : ℕ) → ctx.resolve n.text ≡ res.Local x
+          (env head : Env) (over : Iteration) (i : ℕ) → ctx.resolve n.text ≡ meaning.Local x
           → head ≡ loop_head (binds_number ctx.resolve (n ∷ bound_by b)) around.declared env
           → ((k : HeapTyping) (v : Value) → HasType around.bases k t v → HasType around.bases k u v
           × HasType around.bases k (declared_type around.declared x) v)

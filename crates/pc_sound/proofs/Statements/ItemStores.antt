@@ -30,7 +30,7 @@ use Rattle.pc_sound.proofs.Values.Narrowing.{HasSome, to_members}
 use Rattle.pc_sound.proofs.Heap.Heaps.{store_keeps}
 use Rattle.pc_sound.proofs.Heap.Dicts.{dict_store_keeps}
 use Rattle.pc_sound.proofs.Steps.SafeSteps.{bind_safe, comes_safe, emits_safe, weaken}
-use Rattle.pc_sound.proofs.Settled.KeyedLabels.{IsKeyed, Keyed, keyed_type, keyed_members, TargetKeyed}
+use Rattle.pc_sound.proofs.Regular.KeyedLabels.{IsKeyed, Keyed, keyed_type, keyed_members, TargetKeyed}
 use Rattle.pc_sound.proofs.Expressions.SimpleExpressions.{Covered, GoodEval, allowed, part}
 use Rattle.pc_sound.proofs.Values.Flows.{Evaluates}
 use Rattle.pc_sound.proofs.Values.UnionMembers.{HasEach, each_later, each_left, each_right, AllOf}

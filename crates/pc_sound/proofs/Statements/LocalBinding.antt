@@ -29,7 +29,7 @@ use Rattle.pc_sound.proofs.Lists.{not_empty}
 use Rattle.pc_sound.proofs.Values.ValuesFlow.{of_static}
 use Rattle.pc_sound.proofs.Steps.SafeSteps.{weaken, stopped_as}
 use Rattle.pc_sound.proofs.Expressions.SimpleExpressions.{Covered, GoodEval}
-use Rattle.pc_sound.proofs.Settled.KeyedLabels.{Keyed}
+use Rattle.pc_sound.proofs.Regular.KeyedLabels.{Keyed}
 use Rattle.pc_rules.proofs.Saying.{found_here}
 use Rattle.pc_sound.proofs.Values.Flows.{Evaluates, early_code, flow_safe}
 

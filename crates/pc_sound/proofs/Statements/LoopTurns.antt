@@ -8,7 +8,7 @@ use Rattle.pc_source.specs.declared.place.Place.{Place}
 use Rattle.pc_tree.specs.Tree.{Name, Expr, while_loop, Stmts, no_stmts, more_stmts, Module}
 use Rattle.pc_tree.specs.Stopping.{bound_by, loose_in}
 use Rattle.pc_scope.specs.declared.resolution.NameMeaning.{NameMeaning}
-use Rattle.pc_scope.specs.declared.resolution.NameMeaning.TheVariants as res
+use Rattle.pc_scope.specs.declared.resolution.NameMeaning.TheVariants as meaning
 use Rattle.pc_scope.specs.Resolution.{index_of}
 use Rattle.pc_types.specs.Tree.{Tree}
 use Rattle.pc_flow.specs.Environment.{Env, declared_type, join_envs_onto, loop_head}
@@ -33,7 +33,7 @@ use Rattle.pc_sound.proofs.TruthValues.{not_both}
 use Rattle.pc_tree.proofs.Among.{among_first, none_among}
 use Rattle.pc_sound.proofs.Values.ValuesFlow.{later, extends_refl, extends_through}
 use Rattle.pc_sound.proofs.Expressions.SimpleExpressions.{Covered}
-use Rattle.pc_sound.proofs.Settled.KeyedLabels.{Keyed, SuiteKeyed}
+use Rattle.pc_sound.proofs.Regular.KeyedLabels.{Keyed, SuiteKeyed}
 use Rattle.pc_sound.proofs.Expressions.Conditions.{Decides}
 use Rattle.pc_sound.proofs.Steps.JoinedLocals.{onto_hold}
 use Rattle.pc_sound.proofs.Statements.LoopHeads.{into_head, IsKept, again_at_head}
@@ -45,7 +45,7 @@ use Rattle.pc_sound.proofs.Statements.Branches.{some_holds, stands_with}
 
 -- a local that is bound in the body is told by its number
 pub number_bound : (resolve : List ℕ → NameMeaning) (names : List Name) (n : Name) (x : ℕ) → Contains names n
-    → resolve n.text ≡ res.Local x → binds_number resolve names x ≡ true
+    → resolve n.text ≡ meaning.Local x → binds_number resolve names x ≡ true
 number_bound resolve [] n x among is = absurd (none_among n among)
 number_bound resolve (y ∷ ys) n x among is = elim (among_first y ys n among) [
   | inl same ↦ ap (λ b. b || list_any (λ z. is_local_number x (resolve z.text)) ys)

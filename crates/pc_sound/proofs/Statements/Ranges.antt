@@ -12,7 +12,7 @@ use Rattle.pc_tree.specs.Tree.{more_keywords, Module}
 use Rattle.pc_tree.specs.Depth.{place_of}
 use Rattle.pc_scope.specs.declared.resolution.Builtin.TheVariants as builtin
 use Rattle.pc_scope.specs.declared.resolution.NameMeaning.{NameMeaning}
-use Rattle.pc_scope.specs.declared.resolution.NameMeaning.TheVariants as res
+use Rattle.pc_scope.specs.declared.resolution.NameMeaning.TheVariants as meaning
 use Rattle.pc_scope.specs.Expressions.{is_instance_test}
 use Rattle.pc_types.specs.Tree.{Tree, Any, Int, Object}
 use Rattle.pc_types.specs.Below.{Bases}
@@ -40,7 +40,7 @@ use Rattle.pc_sound.specs.Values.{HeapTyping, HasType}
 use Rattle.pc_sound.specs.Ends.{EndsWell}
 use Rattle.pc_sound.proofs.Steps.Judgment.{HasListed, Around, IsWellTyped, KeepsState, IsSafe, IsContextOf, kept_with}
 use Rattle.pc_sound.proofs.Steps.SafeSteps.{bind_safe, emits_safe, looks_safe, act_safe, may_stop_safe, stopped_as}
-use Rattle.pc_sound.proofs.Settled.KeyedLabels.{Keyed}
+use Rattle.pc_sound.proofs.Regular.KeyedLabels.{Keyed}
 use Rattle.pc_sound.proofs.Expressions.SimpleExpressions.{Covered, GoodEval, allowed}
 use Rattle.pc_sound.proofs.Values.Flows.{Evaluates, first_evaluates, later_evaluates, emit_evaluates}
 use Rattle.pc_sound.proofs.Lists.{not_empty}
@@ -68,8 +68,8 @@ listed_safe around env {A} known m P Q p here evaluates safe = record { run = go
       | inr kept ↦ inr (kept_with kept (stopped_as (P kept.typing) (Q kept.typing) stop kept.ends))
     ]
 
-range_resolved : (r : NameMeaning) → is_range r ≡ true → r ≡ res.Builtin builtin.Range
-range_resolved (res.Builtin builtin.Range) e = refl
+range_resolved : (r : NameMeaning) → is_range r ≡ true → r ≡ meaning.Builtin builtin.Range
+range_resolved (meaning.Builtin builtin.Range) e = refl
 range_resolved _ e = absurd (true≢false (sym e))
 
 -- the signature of `range`
@@ -129,7 +129,7 @@ module _ (around : Around) (ctx : Context) (fits : IsContextOf around ctx) (m : 
           (place_of e) (listed_at c cs is) (evaluates e) part)
           λ v. impossible_safe around env _ _ _ λ k h. h.1
 
-  module _ (knows : KnowsNames around ctx) (p : Place) (n : Name) (is : ctx.resolve n.text ≡ res.Builtin builtin.Range)
+  module _ (knows : KnowsNames around ctx) (p : Place) (n : Name) (is : ctx.resolve n.text ≡ meaning.Builtin builtin.Range)
       (args : Exprs) (kws : Keywords) (labels : Labels (call p (name n) args kws))
       (law : LawfulRange m ctx around.declared env (name n) args kws p labels)
       (covered : Covered around (Finds (call p (name n) args kws) labels))
@@ -212,7 +212,7 @@ module _ (around : Around) (ctx : Context) (fits : IsContextOf around ctx) (m : 
         limit_ends k s _ t int h = absurd h
 
   -- the iterable of a `for` is safe
-  iterable_safe : KnowsNames around ctx → ctx.resolve (codes "range") ≡ res.Builtin builtin.Range
+  iterable_safe : KnowsNames around ctx → ctx.resolve (codes "range") ≡ meaning.Builtin builtin.Range
       → (e : Expr) (labels : Labels e) (item : Label) → LawfulIterable m ctx around.declared env e labels item
       → Covered around (Finds e labels) → Covered around (IsFoundAt (place_of e) item.codes) → Keyed e labels
       → IsSafe around env (λ k. Unit {0}) (eval_iterable Step free parts e (iterable_form e))
@@ -255,7 +255,7 @@ module _ (around : Around) (ctx : Context) (fits : IsContextOf around ctx) (m : 
 -- the iterables of `for` statements
 pub iterables_good : (around : Around) (ctx : Context) (fits : IsContextOf around ctx) (m : Module) (returned : Tree)
     (parts : Parts Step) → GoodEval around ctx parts.eval → ((e : Expr) → Evaluates (place_of e) (parts.eval e))
-    → KnowsNames around ctx → ctx.resolve (codes "range") ≡ res.Builtin builtin.Range
+    → KnowsNames around ctx → ctx.resolve (codes "range") ≡ meaning.Builtin builtin.Range
     → GoodIterables around ctx fits m returned parts
 iterables_good around ctx fits m returned parts good evaluates knows range_is = record {
   safe = λ env e labels item law covered item_covered keyed. iterable_safe around ctx fits m parts good evaluates env

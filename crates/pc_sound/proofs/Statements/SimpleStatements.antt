@@ -5,7 +5,7 @@ use Rattle.pc_source.specs.declared.place.Place.{Place}
 use Rattle.pc_tree.specs.Tree.{Name, Expr, Ann, Target, to_name, to_attribute, to_index, pass, breaks, continues}
 use Rattle.pc_tree.specs.Tree.{returns, asserts, annotated, assigns, evaluates, Module}
 use Rattle.pc_tree.specs.Depth.{place_of}
-use Rattle.pc_scope.specs.declared.resolution.NameMeaning.TheVariants as res
+use Rattle.pc_scope.specs.declared.resolution.NameMeaning.TheVariants as meaning
 use Rattle.pc_types.specs.Tree.{Tree, NoneType}
 use Rattle.pc_types.specs.Below.{Static}
 use Rattle.pc_flow.specs.Environment.{Env, declared_type, assign, assigned_type}
@@ -29,7 +29,7 @@ use Rattle.pc_sound.proofs.Steps.Judgment.{FlowEnds, Lasts}
 use Rattle.pc_tree.proofs.Among.{first_among}
 use Rattle.pc_sound.proofs.Values.ValuesFlow.{of_static}
 use Rattle.pc_sound.proofs.Expressions.SimpleExpressions.{Covered, GoodEval}
-use Rattle.pc_sound.proofs.Settled.KeyedLabels.{Keyed, OptionKeyed, TargetKeyed, StmtKeyed}
+use Rattle.pc_sound.proofs.Regular.KeyedLabels.{Keyed, OptionKeyed, TargetKeyed, StmtKeyed}
 use Rattle.pc_sound.proofs.Expressions.Conditions.{Decides}
 use Rattle.pc_sound.proofs.Values.Flows.{Evaluates, flow_safe}
 use Rattle.pc_sound.proofs.Steps.LeadingSteps.{ends_as, leads_bind, leads_comes, leads_looks, leads_binds, leads_from}
@@ -49,7 +49,7 @@ pub record GoodStores (around : Around) (m : Module) (ctx : Context) (parts : Pa
 module _ (around : Around) (ctx : Context) (fits : IsContextOf around ctx) where
   -- after it was bound a local holds a value of its declared type and of its current type
   pub bound_local : (more : HeapTyping → Frame → Type 0) (names : List Name) → Lasts around ctx names more
-      → (env : Env) (n : Name) → Contains names n → (x : ℕ) (t : Tree) (v : Value) → ctx.resolve n.text ≡ res.Local x
+      → (env : Env) (n : Name) → Contains names n → (x : ℕ) (t : Tree) (v : Value) → ctx.resolve n.text ≡ meaning.Local x
       → (k : HeapTyping) (s : State) → IsWellTypedAnd around env more k s → HasType around.bases k t v
       → HasType around.bases k (declared_type around.declared x) v → IsWellTypedAnd around (assign env x t) more k
       (record s { frame = with_local n.text v s.frame })
@@ -282,7 +282,7 @@ module _ (around : Around) (ctx : Context) (fits : IsContextOf around ctx) (m : 
   binding_runs seen env n annotation e labels flows after out law is covered_flow covered keyed more lasts =
       go (lasts.local n (first_among n [])).number (lasts.local n (first_among n [])).resolves
     where
-      go : (x : ℕ) → ctx.resolve n.text ≡ res.Local x → Leads around (λ k s. IsWellTypedAnd around env more k s)
+      go : (x : ℕ) → ctx.resolve n.text ≡ meaning.Local x → Leads around (λ k s. IsWellTypedAnd around env more k s)
           (parts.eval e >>= λ v. (Changes (binds_local n.text v) >>= λ u. comes (Gives next)))
           (λ k flow s. FlowEnds around (ways_out around ctx m returned out [] []) k flow s × more k s.frame)
       go x resolves =

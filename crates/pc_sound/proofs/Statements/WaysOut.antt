@@ -23,7 +23,7 @@ use Rattle.pc_sound.specs.Values.{HeapTyping, HasType}
 use Rattle.pc_sound.proofs.Steps.Judgment.{Around, IsWellTyped, Leads, IsWellTypedAnd, Ways, FlowEnds, Lasts}
 use Rattle.pc_sound.proofs.Expressions.SimpleExpressions.{Covered}
 use Rattle.pc_sound.proofs.Steps.LeadingSteps.{leads_bind, leads_comes, leads_charge, leads_from, leads_to}
-use Rattle.pc_sound.proofs.Settled.KeyedLabels.{StmtKeyed, SuiteKeyed}
+use Rattle.pc_sound.proofs.Regular.KeyedLabels.{StmtKeyed, SuiteKeyed}
 
 module _ (around : Around) (ctx : Context) where
   -- a step leads from an environment to the ways out, and what lasts when these names are bound lasts

@@ -7,7 +7,7 @@ use Rattle.std.proofs.lemmas.Option.{same_Some}
 use Rattle.pc_types.specs.Tree.{Tree}
 use Rattle.pc_types.specs.Below.{Bases}
 use Rattle.pc_flow.specs.Environment.{Env, current, declared_type, assign, none_assigned}
-use Rattle.pc_scope.specs.declared.resolution.NameMeaning.TheVariants as res
+use Rattle.pc_scope.specs.declared.resolution.NameMeaning.TheVariants as meaning
 use Rattle.pc_scope.specs.Resolution.{index_of}
 use Rattle.pc_value.specs.Value.{Value}
 use Rattle.pc_value.specs.Texts.{same_text}
@@ -149,7 +149,7 @@ suc_same : (m n : ℕ) → suc m ≡ suc n → m ≡ n
 suc_same m n e = grind (arith, e)
 
 -- a name means at most one local
-pub local_injective : {x y : ℕ} → res.Local x ≡ res.Local y → x ≡ y
+pub local_injective : {x y : ℕ} → meaning.Local x ≡ meaning.Local y → x ≡ y
 local_injective e = grind arith
 
 -- two names of one number are the same

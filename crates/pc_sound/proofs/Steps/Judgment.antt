@@ -6,7 +6,7 @@ use Rattle.pc_tree.specs.declared.code.Code.{Code}
 use Rattle.pc_types.specs.Tree.{Tree}
 use Rattle.pc_tree.specs.Tree.{Name, Expr}
 use Rattle.pc_types.specs.Below.{Bases, AreSmaller}
-use Rattle.pc_scope.specs.declared.resolution.NameMeaning.TheVariants as res
+use Rattle.pc_scope.specs.declared.resolution.NameMeaning.TheVariants as meaning
 use Rattle.pc_scope.specs.Resolution.{index_of}
 use Rattle.pc_class.specs.Facts as facts
 use Rattle.pc_flow.specs.Environment.{Env, declared_type}
@@ -100,8 +100,8 @@ pub record IsContextOf (around : Around) (ctx : Context) : Type 0 where
   pub bases : around.bases ≡ ctx.bases
   pub classes : around.classes ≡ ctx.classes
   pub smaller : AreSmaller around.bases
-  pub local : (word : List ℕ) (x : ℕ) → ctx.resolve word ≡ res.Local x → index_of word around.names ≡ Some x
-  pub named : (word : List ℕ) (x : ℕ) → index_of word around.names ≡ Some x → ctx.resolve word ≡ res.Local x
+  pub local : (word : List ℕ) (x : ℕ) → ctx.resolve word ≡ meaning.Local x → index_of word around.names ≡ Some x
+  pub named : (word : List ℕ) (x : ℕ) → index_of word around.names ≡ Some x → ctx.resolve word ≡ meaning.Local x
 
 -- ---- conditions
 
@@ -166,7 +166,7 @@ FlowEnds around ways k (leaves v) s = HasType around.bases k ways.returned v
 -- a name is a local of the body
 pub record IsLocal (around : Around) (ctx : Context) (word : List ℕ) : Type 0 where
   pub number : ℕ
-  pub resolves : ctx.resolve word ≡ res.Local number
+  pub resolves : ctx.resolve word ≡ meaning.Local number
   pub is : index_of word around.names ≡ Some number
 
 -- a fact of a frame stays known when the heap typing grows, and when one of these names is bound to a value of its
@@ -176,5 +176,5 @@ pub record Lasts (around : Around) (ctx : Context) (names : List Name) (more : H
   pub local : (n : Name) → Contains names n → IsLocal around ctx n.text
   pub grow : (k k' : HeapTyping) (frame : Frame) → Extends k k' → more k frame → more k' frame
   pub bind : (n : Name) (x : ℕ) (v : Value) (k : HeapTyping) (frame : Frame) → Contains names n
-      → ctx.resolve n.text ≡ res.Local x → HasNames around.names frame
+      → ctx.resolve n.text ≡ meaning.Local x → HasNames around.names frame
       → HasType around.bases k (declared_type around.declared x) v → more k frame → more k (with_local n.text v frame)

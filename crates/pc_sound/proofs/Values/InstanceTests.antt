@@ -3,7 +3,7 @@
 use Rattle.std.proofs.Common.{◌≡◌, ℕ, zero, suc, List, [], ◌∷◌, length, refl, sym, ap, ◌∙◌, subst, arith}
 use Rattle.std.specs.Prelude.{Bool as Truth, true, false, Option, Some, None, slice_get}
 use Rattle.std.proofs.lemmas.Option.{none-some, same_Some}
-use Rattle.pc_scope.specs.declared.resolution.NameMeaning.TheVariants as res
+use Rattle.pc_scope.specs.declared.resolution.NameMeaning.TheVariants as meaning
 use Rattle.pc_types.specs.Tree.{Int, Bool, Str}
 use Rattle.pc_types.specs.Tree as tree
 use Rattle.pc_types.specs.Below.{Bases, Below}
@@ -44,7 +44,7 @@ IsRight bases made _ _ = ⊥
 pub record RightTests (around : Around) (ctx : Context) : Type 0 where
   pub means : MeansTest ctx
   pub right : (env : Env) (k : HeapTyping) (s : State) → IsWellTyped around env k s → (local : List ℕ) (x : ℕ)
-      → ctx.resolve local ≡ res.Local x → (word : List ℕ) (test : Tested) → test_named (ctx.resolve word) ≡ Some test
+      → ctx.resolve local ≡ meaning.Local x → (word : List ℕ) (test : Tested) → test_named (ctx.resolve word) ≡ Some test
       → (made : InstanceTest) → test_of_meaning word (meaning_in_run word s) ≡ Gives made
       → IsRight around.bases s.classes test made
 

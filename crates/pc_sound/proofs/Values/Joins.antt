@@ -363,11 +363,11 @@ module _ (bases : Bases) (ordered : AreSmaller bases) (k : HeapTyping) where
   rule_holds s Object u o v e g h = subst (λ x. HasType bases k x v) (same_Some _ _ e) tt
   rule_holds s t u o v e g h = g e h
 
-  settled_holds : (s t u : Tree) → ((l : List Tree) → put_all bases t s (unabsorbed_members bases t s) ≡ Some l
+  regular_holds : (s t u : Tree) → ((l : List Tree) → put_all bases t s (unabsorbed_members bases t s) ≡ Some l
       → Keeps t s (unabsorbed_members bases t s) l) → ((l : List Tree)
       → put_all bases t s (unabsorbed_members bases t s) ≡ Some l → Adds t s l) → join_of bases s t ≡ Some u
       → (v : Value) → HasType bases k s v ⊎ HasType bases k t v → HasType bases k u v
-  settled_holds s t u keeps adds e v h = go (same_tree s t) refl e
+  regular_holds s t u keeps adds e v h = go (same_tree s t) refl e
     where
       by_members : (o : Option (List Tree)) → put_all bases t s (unabsorbed_members bases t s) ≡ o
           → option_map union o ≡ Some u → HasType bases k s v ⊎ HasType bases k t v → HasType bases k u v
@@ -451,7 +451,7 @@ module _ (bases : Bases) (ordered : AreSmaller bases) (k : HeapTyping) where
     each_holds (more s ss) (more t ts) us e (more_values v vs) h =
         let w = both_are (join_of bases s t) (join_each bases ss ts) us e in
         subst (λ x. HaveTypes bases k x (more_values v vs)) w.is (
-          settled_holds s t w.first (λ l f. put_all_keeps t s (unabsorbed_members bases t s) l f)
+          regular_holds s t w.first (λ l f. put_all_keeps t s (unabsorbed_members bases t s) l f)
               (λ l f. put_all_adds t s (unabsorbed_members bases t s) l f) w.is_first v
               (elim h [ inl a ↦ inl a.0 | inr b ↦ inr b.0 ]),
           each_holds ss ts w.rest w.is_rest vs (elim h [ inl a ↦ inl a.1 | inr b ↦ inr b.1 ]),
@@ -460,7 +460,7 @@ module _ (bases : Bases) (ordered : AreSmaller bases) (k : HeapTyping) where
   -- a value of either type is one of their join
   pub joined_holds : (s t u : Tree) → join_of bases s t ≡ Some u → (v : Value) → HasType bases k s v
       ⊎ HasType bases k t v → HasType bases k u v
-  joined_holds s t u e v h = settled_holds s t u (λ l f. put_all_keeps t s (unabsorbed_members bases t s) l f)
+  joined_holds s t u e v h = regular_holds s t u (λ l f. put_all_keeps t s (unabsorbed_members bases t s) l f)
       (λ l f. put_all_adds t s (unabsorbed_members bases t s) l f) e v h
 
   pub join_holds : (s t u : Tree) → join bases s t ≡ Some u → (v : Value) → HasType bases k s v ⊎ HasType bases k t v

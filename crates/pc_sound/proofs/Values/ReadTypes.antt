@@ -13,7 +13,7 @@ use Rattle.pc_grammar.specs.Grammar.Modules.{SpellsMembers, ClassBody, SpellsIte
 use Rattle.pc_scope.specs.declared.resolution.Builtin.{Builtin}
 use Rattle.pc_scope.specs.declared.resolution.Builtin.TheVariants as builtin
 use Rattle.pc_scope.specs.declared.resolution.NameMeaning.{NameMeaning}
-use Rattle.pc_scope.specs.declared.resolution.NameMeaning.TheVariants as res
+use Rattle.pc_scope.specs.declared.resolution.NameMeaning.TheVariants as meaning
 use Rattle.pc_scope.specs.Resolution.{resolve_in_module}
 use Rattle.pc_scope.specs.Bindings.{classes_in}
 use Rattle.pc_types.specs.Tree.{Tree, Any, Never, Int, Str}
@@ -63,12 +63,12 @@ atom_without x builtin.Any = cond_both x (Some Any) None HasNoNeverIfAny (λ e. 
 atom_without x _ = tt
 
 named_without : (x : Test) (r : NameMeaning) → HasNoNeverIfAny (named_type x r)
-named_without x (res.Builtin b) = atom_without x b
-named_without x (res.Class c) = tt
+named_without x (meaning.Builtin b) = atom_without x b
+named_without x (meaning.Class c) = tt
 named_without x _ = tt
 
 empty_without : (r : NameMeaning) → HasNoNeverIfAny (empty_type r)
-empty_without (res.Builtin builtin.Tuple) = tt
+empty_without (meaning.Builtin builtin.Tuple) = tt
 empty_without _ = tt
 
 trees_without : (ts : List Tree) → AllHaveNone ts → HaveNoNever (trees ts)
@@ -87,7 +87,7 @@ built_without builtin.Tuple (t ∷ ts) n = trees_without (t ∷ ts) n
 built_without _ _ n = tt
 
 applied_without : (r : NameMeaning) (ts : List Tree) → AllHaveNone ts → HasNoNeverIfAny (applied_type r ts)
-applied_without (res.Builtin b) ts n = built_without b ts n
+applied_without (meaning.Builtin b) ts n = built_without b ts n
 applied_without _ ts n = tt
 
 ahead_without : (m t : Tree) → HasNoNever m → HasNoNever t → HasNoNever (ahead m t)

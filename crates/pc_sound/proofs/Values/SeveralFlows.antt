@@ -22,7 +22,7 @@ use Rattle.pc_sound.specs.Values.{HeapTyping, HasType}
 use Rattle.pc_sound.proofs.Steps.Judgment.{HasListed, Around, IsWellTyped, KeepsState, IsSafe, kept_with}
 use Rattle.pc_sound.proofs.Values.ValuesFlow.{of_static}
 use Rattle.pc_sound.proofs.Steps.SafeSteps.{weaken, stopped_as}
-use Rattle.pc_sound.proofs.Settled.KeyedLabels.{Keyed}
+use Rattle.pc_sound.proofs.Regular.KeyedLabels.{Keyed}
 use Rattle.pc_sound.proofs.Expressions.SimpleExpressions.{Covered, GoodEval}
 use Rattle.pc_rules.proofs.Saying.{found_here}
 use Rattle.pc_sound.proofs.Values.Flows.{Evaluates, early_code}
@@ -71,15 +71,15 @@ module _ (around : Around) (p : Place) where
       go false is f = by_flow x.code refl f
 
   -- where all flows are allowed, they are static or the place is listed
-  pub settled_flows : (m : Label) → (is_early m.codes ≡ true → around.listed p) → (ts : List Tree) (cs : FlowLabels)
+  pub regular_flows : (m : Label) → (is_early m.codes ≡ true → around.listed p) → (ts : List Tree) (cs : FlowLabels)
       → FlowsInto around.bases m ts cs → Covered around (IsFlowAt p cs) → AllStatic around.bases m.type ts
       ⊎ around.listed p
-  settled_flows m punctual [] [] flows covered = inl tt
-  settled_flows m punctual [] (c ∷ cs) flows covered = absurd flows
-  settled_flows m punctual (t ∷ ts) [] flows covered = absurd flows
-  settled_flows m punctual (t ∷ ts) (c ∷ cs) flows covered = elim (one_flow m punctual t c cs flows.0 covered) [
+  regular_flows m punctual [] [] flows covered = inl tt
+  regular_flows m punctual [] (c ∷ cs) flows covered = absurd flows
+  regular_flows m punctual (t ∷ ts) [] flows covered = absurd flows
+  regular_flows m punctual (t ∷ ts) (c ∷ cs) flows covered = elim (one_flow m punctual t c cs flows.0 covered) [
     | inr l ↦ inr l
-    | inl s ↦ elim (settled_flows m punctual ts cs flows.1 (later_flows c cs covered))
+    | inl s ↦ elim (regular_flows m punctual ts cs flows.1 (later_flows c cs covered))
         [ inl all ↦ inl (s, all) | inr l ↦ inr l ]
   ]
 
@@ -102,7 +102,7 @@ module _ (around : Around) (ctx : Context) (eval : Expr → Step Value) (good : 
       → FlowsInto around.bases (whole_label e m) ts cs → Covered around (IsFlowAt (place_of e) cs) → Keyed e m
       → IsSafe around env known (eval e) (λ k v. HasType around.bases k (type_of e m) v × HasEach around.bases k ts v)
   flows_safe known want e m ts cs law covered flows allowed keyed =
-      elim (settled_flows around (place_of e) (whole_label e m) (is_punctual around e m covered) ts cs flows allowed) [
+      elim (regular_flows around (place_of e) (whole_label e m) (is_punctual around e m covered) ts cs flows allowed) [
         | inl all ↦ weaken around env known (λ k. Unit {0}) (eval e) (λ k v. HasType around.bases k (type_of e m) v)
             (λ k v. HasType around.bases k (type_of e m) v × HasEach around.bases k ts v) (λ k h. tt)
             (λ k v h. (h, each_static around.bases k (type_of e m) ts v all h))

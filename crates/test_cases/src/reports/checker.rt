@@ -9,7 +9,7 @@ pub trait ReportMaker {
     /// Returns the text of its report of bytes in a format, or of its refusal, with types as numbers.
     fn by_numbers(&self, alloc: Global, bytes: &[u8], format: Format) -> Result<String, AllocError>;
 
-    /// Returns the same with types in boxes.
+    /// Returns the text of its report of bytes in a format, or of its refusal, with types in boxes.
     fn by_boxes(&self, alloc: Global, bytes: &[u8], format: Format) -> Result<String, AllocError>;
 
     /// Returns the text of its report of bytes with details, or of its refusal.

@@ -13,6 +13,12 @@ const TEXT: &str = "====\n";
 /// The report of a text that is only read.
 const READS: &str = "reads";
 
+/// The word in place of a number of calls, if each number is tried in turn.
+const EVERY: &str = "every";
+
+/// The number of calls before which the reader of such a row must have given its text.
+const MOST_CALLS: usize = 1000;
+
 /// The separator after a text, and after its report.
 const NEXT: &str = "\n----\n";
 
@@ -104,6 +110,55 @@ fn told<C: ReportMaker>(
     )
 }
 
+/// Returns the answer to the words of a row, for a reader of `bytes` that fails after a number of calls.
+fn answer_after<C: ReportMaker>(
+    alloc: Global,
+    bytes: Vec<u8>,
+    calls: usize,
+    report: &str,
+    words: &[&str],
+    checker: &C,
+) -> Result<String, TableFault> {
+    let (given, each, most) = (number(words, 0)?, number(words, 2)?, number(words, 3)?);
+    let mut reader = Counted::new(FailingReader {
+        bytes,
+        at: 0,
+        each: given,
+        calls,
+    });
+    let mut writer = Counted::new(FailingWriter {
+        taken: Vec::new(alloc),
+        each,
+        most,
+    });
+    let json = words.get(4).copied() == Some("json");
+    Ok(told(alloc, &mut reader, &mut writer, json, report, checker)?)
+}
+
+/// Returns the answer to the words of a row for the smallest number of calls after which the reader does not fail too
+/// early, and that number. With fewer calls each answer must be that the input could not be read, with nothing written.
+fn answer_to_every<C: ReportMaker>(
+    alloc: Global,
+    text: &str,
+    report: &str,
+    words: &[&str],
+    checker: &C,
+) -> Result<String, TableFault> {
+    let given = number(words, 0)?;
+    for calls in 0..MOST_CALLS {
+        let bytes = bytes_of(alloc, text)?;
+        let read = given.saturating_mul(calls).min(bytes.len());
+        let early = format!(in alloc;
+            "the input could not be read; failed 1 1; read {read}, left 0; 0 bytes of the report"
+        )?;
+        let got = answer_after(alloc, bytes, calls, report, words, checker)?;
+        if got.as_str() != early.as_str() {
+            return Ok(format!(in alloc; "{calls} fail; {got}")?);
+        }
+    }
+    Ok(String::from_str(alloc, "all fail")?)
+}
+
 /// Returns the answer to a row: the bytes that the reader gives per call and its calls, the bytes that the writer takes
 /// per call and in all, and whether the report is written as JSON.
 fn answer<C: ReportMaker>(
@@ -114,21 +169,18 @@ fn answer<C: ReportMaker>(
     checker: &C,
 ) -> Result<String, TableFault> {
     let words: Vec<&str> = row.split(' ').collect(alloc)?;
-    let (given, calls) = (number(&words, 0)?, number(&words, 1)?);
-    let (each, most) = (number(&words, 2)?, number(&words, 3)?);
-    let mut reader = Counted::new(FailingReader {
-        bytes: bytes_of(alloc, text)?,
-        at: 0,
-        each: given,
+    if words.get(1).copied() == Some(EVERY) {
+        return answer_to_every(alloc, text, report, &words, checker);
+    }
+    let calls = number(&words, 1)?;
+    answer_after(
+        alloc,
+        bytes_of(alloc, text)?,
         calls,
-    });
-    let mut writer = Counted::new(FailingWriter {
-        taken: Vec::new(alloc),
-        each,
-        most,
-    });
-    let json = row.ends_with(" json");
-    Ok(told(alloc, &mut reader, &mut writer, json, report, checker)?)
+        report,
+        &words,
+        checker,
+    )
 }
 
 /// Describes three reads in a row, each of at most `most` bytes: the fault, or the number of bytes read and whether

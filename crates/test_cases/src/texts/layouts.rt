@@ -56,7 +56,7 @@ fn fault_after(name: &str) -> Option<Fault> {
 }
 
 /// Returns the first fault of the layout of a text's lines with a fault after them, and whether nothing follows it.
-fn settled(
+fn first_layout_fault(
     alloc: Global,
     source: &Source,
     after: Option<Fault>,
@@ -84,9 +84,9 @@ fn settled(
 }
 
 /// Returns the fault of the layout of a text's lines with a fault after them, by the name of the part.
-pub fn settled_text(alloc: Global, name: &str, text: &str) -> Result<String, Fault> {
+pub fn layout_fault_text(alloc: Global, name: &str, text: &str) -> Result<String, Fault> {
     let source = read_source(alloc, text.as_bytes())?;
-    match settled(alloc, &source, fault_after(name))? {
+    match first_layout_fault(alloc, &source, fault_after(name))? {
         (None, true) => Ok(String::from_str(alloc, "none")?),
         (Some(fault), true) => Ok(format!(in alloc; "{fault}")?),
         (_, false) => Ok(String::from_str(alloc, "more after the end")?),

@@ -25,7 +25,7 @@ fn has_ended(alloc: Global, source: &Source, answers: usize) -> bool {
     left.next().is_none() && left.next().is_none()
 }
 
-/// Returns that a text is read, or the number of lines before its refusal, the code and the byte.
+/// Returns `read` if a text is read, else the number of lines before its refusal, the code and the byte.
 pub fn reading_text(alloc: Global, text: &str) -> Result<String, Fault> {
     let source = read_source(alloc, text.as_bytes())?;
     let (before, fault) = ended(alloc, &source);

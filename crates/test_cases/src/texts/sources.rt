@@ -3,7 +3,7 @@ use pc_source::{Fault, read_source};
 use std::alloc::Global;
 use test_rows::bytes_of;
 
-/// Returns that the bytes that a text represents are read as that text, or the refusal.
+/// Returns whether the bytes that a text represents are read as that text, or their refusal, as words.
 pub fn source_text(alloc: Global, text: &str) -> Result<String, Fault> {
     let Ok(bytes) = bytes_of(alloc, text) else {
         return Ok(String::from_str(alloc, "no bytes")?);

@@ -2,7 +2,7 @@
 
 use crate::texts::asking::asking_text;
 use crate::texts::expressions::expression_text;
-use crate::texts::layouts::{layout_text, list_text, settled_text};
+use crate::texts::layouts::{layout_fault_text, layout_text, list_text};
 use crate::texts::lines::lines_text;
 use crate::texts::lists::{statements, tokens_text};
 use crate::texts::modules::module_text;
@@ -46,7 +46,7 @@ fn answer(alloc: Global, kind: &str, row: &TableRow<'_>) -> Result<String, Fault
         "layouts" => layout_text(alloc, text),
         "line_lists" => list_text(alloc, text),
         "faults" => has_layout(alloc, text),
-        "settled" => settled_text(alloc, part, text),
+        "settled" => layout_fault_text(alloc, part, text),
         "askings" => asking_text(alloc, text),
         _ => Ok(String::from_str(alloc, "no table is of this kind")?),
     }

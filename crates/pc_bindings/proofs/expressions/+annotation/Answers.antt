@@ -12,7 +12,7 @@ add_in_ann-returns-in_ok-add_name-in-Apply t c = joined c.add_in_anns.result (ma
     (map mention_of c.add_name-in-Apply.new.mentions.items) (map mention_of c.add_in_anns.new.mentions.items)
     (mention_at in_module (name_of c.in-Apply.head) ∷ []) (in_anns (anns_of_list c.in-Apply.arguments.items)) _
     c.in_ok-add_name-in-Apply.ensures
-    (ap in_ann (applied_is c.args.ann.now c.in-Apply.field-0 c.in-Apply.head c.in-Apply.arguments c.in-Apply.is))
+    (ap in_ann (applied_is c.args.ann.now c.in-Apply.place c.in-Apply.head c.in-Apply.arguments c.in-Apply.is))
     (rw c.deref.ensures.value at c.add_in_anns.ensures)
 
 pub add_in_ann-returns-in-Union : goal.add_in_ann-returns-in-Union

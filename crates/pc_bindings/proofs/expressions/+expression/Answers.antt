@@ -41,7 +41,7 @@ add_in_expr-returns-in_ok-add_in_exprs-in-Call t c =
     let values = in_values s (keywords_of_list c.in-Call.by_name.items) in
     rw c.in-Call.is (joined r old one three callee (arguments ++ values) _
     (rw c.deref-in-Call.ensures at c.in_ok-add_in_expr-in-Call.ensures)
-    (ap (λ (e : Expr). in_expr s e) (call_tree c.in-Call.field-0 c.in-Call.callee c.in-Call.arguments
+    (ap (λ (e : Expr). in_expr s e) (call_tree c.in-Call.place c.in-Call.callee c.in-Call.arguments
     c.in-Call.by_name))
     (joined r one two three arguments values (arguments ++ values)
     (rw c.deref-in-Call-2.ensures.value at c.in_ok-add_in_exprs-in-Call.ensures) refl

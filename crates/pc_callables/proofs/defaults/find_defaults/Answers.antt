@@ -7,7 +7,7 @@ use Rattle.pc_class.specs.Facts.{TypedParameter}
 use Rattle.pc_class.specs.declared.table.Parameter.{Parameter as RustParameter}
 use Rattle.pc_notes.specs.Notes.{Note, notes_of}
 use Rattle.pc_rules.specs.Computed.Signatures.{is_in_names, with_name, binds_text, default_findings}
-use Rattle.pc_rules.proofs.Checkers.{goes_further}
+use Rattle.pc_rules.proofs.TypingStates.{goes_further}
 use Rattle.pc_callables.proofs.HeldSignatures.{params_kept}
 use Rattle.pc_callables.proofs.SignatureWalks.{stepped, typed_at, typed_many, defaults_found}
 use Rattle.pc_callables.proofs.defaults.find_defaults.Goals as goal
@@ -42,16 +42,16 @@ loop-number-preserved g c =
     ∙ ap (λ (p : TypedParameter). p.type)
     (typed_at m tree ts ps i t x c.requires.same within c.index-typed-number.is less c.index-params-number.is) in
     let found = c.in_ok-find_default.ensures.found
-    ∙ ap (λ (l : List Note). notes_of c.loop-number.checker.found.now ++ l)
+    ∙ ap (λ (l : List Note). notes_of c.loop-number.state.found.now ++ l)
     (ap (λ (bs : Bases). default_findings bs c.binds-binds.result d.default (tree read.ty)) c.requires.outline.parents
     ∙ ap (λ b. default_findings (bases_of m) b d.default (tree read.ty)) (c.binds-binds.ensures
     ∙ ap (binds_text bound) c.as_str.ensures.value)
     ∙ ap (default_findings (bases_of m) (binds_text bound d.name.text) d.default) typed) in
     record {
       many = v.many;
-      given = params_kept has c.loop-number.checker.store.now c.find_default.new.checker.store.now
+      given = params_kept has c.loop-number.state.store.now c.find_default.new.state.store.now
           c.find_default.ensures.goes_on.kept ts v.given;
-      found = stepped (notes_of c.loop-number.checker.found.now) (notes_of c.find_default.new.checker.found.now) _ _ _ _
+      found = stepped (notes_of c.loop-number.state.found.now) (notes_of c.find_default.new.state.found.now) _ _ _ _
           v.found (defaults_found m bound (is_in_names c.bind.new.bound) ps i x less c.index-params-number.is
           (c.in_ok-bind.ensures ∙ ap (with_name bound) c.as_str-in-loop-number.ensures.value)) found;
       goes_on = goes_further v.goes_on c.find_default.ensures.goes_on;

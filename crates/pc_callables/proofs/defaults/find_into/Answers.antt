@@ -14,7 +14,7 @@ pub returns-clause-found : goal.returns-clause-found
 returns-clause-found g c = λ m e.
     let tree = g.S.TypeStore.tree in
     let bases = c.args.parents.now in
-    let old = notes_of c.args.checker.now.found.now in
+    let old = notes_of c.args.state.now.found.now in
     let p = c.args.place in
     let from = tree c.args.label.now.ty in
     let into = tree c.args.into.now in

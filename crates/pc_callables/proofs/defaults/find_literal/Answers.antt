@@ -14,7 +14,7 @@ returns-clause-found g c =
     let l = c.args.literal.now in
     let bases = c.args.parents.now in
     let t = g.S.TypeStore.tree c.args.into.now in
-    subst (λ (p : Place). OnOk c.find_into.result ((notes_of c.find_into.new.checker.found.now)
-    ≡ (notes_of c.args.checker.now.found.now) ++ flows_at p (flows_of bases (clean (literal_type (literal_of l)))
+    subst (λ (p : Place). OnOk c.find_into.result ((notes_of c.find_into.new.state.found.now)
+    ≡ (notes_of c.args.state.now.found.now) ++ flows_at p (flows_of bases (clean (literal_type (literal_of l)))
     (t ∷ [])))) (place_is l)
     (c.find_into.ensures.found (clean (literal_type (literal_of l))) c.in_ok-label.ensures.labelled.is)

@@ -11,7 +11,7 @@ use Rattle.pc_class.specs.Entries.{parameter_made}
 use Rattle.pc_class.specs.Facts.{TypedParameter, ClassFacts, field_by_name, class_facts_at, base_facts, classes_of}
 use Rattle.pc_class.specs.Tables.{parameter_lent, IsFieldIfAny}
 use Rattle.pc_notes.specs.Notes.{Note, notes_of}
-use Rattle.pc_rules.specs.Computed.Checkers.{AddsNotes}
+use Rattle.pc_rules.specs.Computed.TypingStates.{AddsNotes}
 use Rattle.pc_rules.specs.Computed.Signatures.{is_in_names, binds_as_field, default_findings}
 use Rattle.pc_callables.proofs.MembersHeld.{unbound, bound_as, no_default}
 use Rattle.pc_callables.proofs.members.check_field.Goals as goal
@@ -28,7 +28,7 @@ returns-in-None-clause-found g c =
     let tree = g.S.TypeStore.tree in
     let d = field_of c.args.field.now in
     let bound = is_in_names c.args.bound.now in
-    let notes = notes_of c.args.checker.now.found.now in
+    let notes = notes_of c.args.state.now.found.now in
     let binds = binds_as_field (base_facts (classes_of m) c.args.class.base) bound d.name.text in
     let text = c.as_str.ensures.value in
     let found = sym (ap (option_map (parameter_lent tree)) c.in-None.is) ∙ c.held_field.ensures.value tree
@@ -41,7 +41,7 @@ returns-in-None-clause-found g c =
 
 pub find_default-requires : goal.find_default-requires
 find_default-requires g c =
-    field_held (g.S.TypeStore.has c.args.checker.now.store.now) c.args.globals.now.classes.now
+    field_held (g.S.TypeStore.has c.args.state.now.store.now) c.args.globals.now.classes.now
     c.requires.globals.entries c.in-Some.held.now
     (subst (IsFieldIfAny c.args.globals.now.classes.now) c.in-Some.is c.held_field.ensures.listed)
 
@@ -64,5 +64,5 @@ returns-in-Some-clause-found g c =
     c.requires.globals.outline.parents
     ∙ ap (λ b. default_findings (bases_of m) b d.default (tree held.now.ty)) (sym is.0)
     ∙ ap (default_findings (bases_of m) binds d.default) typed in
-    subst (λ (l : List Note). OnOk c.find_default.result (AddsNotes c.args.checker.now c.find_default.new.checker l)) same
+    subst (λ (l : List Note). OnOk c.find_default.result (AddsNotes c.args.state.now c.find_default.new.state l)) same
     c.find_default.ensures.found

@@ -3,7 +3,7 @@ use Rattle.pc_tree.specs.Tree.{Name}
 use Rattle.pc_class.specs.Facts.{base_facts, classes_of}
 use Rattle.pc_notes.specs.Notes.{notes_of}
 use Rattle.pc_rules.specs.Computed.Signatures.{is_in_names, with_name}
-use Rattle.pc_rules.proofs.Checkers.{goes_further}
+use Rattle.pc_rules.proofs.TypingStates.{goes_further}
 use Rattle.pc_annotations.specs.ModuleOutlines.{module_in}
 use Rattle.pc_callables.specs.SignaturesRead.{signatures_with}
 use Rattle.pc_callables.proofs.HeldSignatures.{globals_kept}
@@ -27,13 +27,13 @@ loop-member-preserved g c =
     record {
       table = (held_apart m c.args.class.number base (is_in_names c.loop-member.bound) (is_in_names c.bind.new.bound) ms i x
           less is next v.table).1;
-      globals = globals_kept has tree c.loop-member.checker.store.now c.add_member.new.checker.store.now
+      globals = globals_kept has tree c.loop-member.state.store.now c.add_member.new.state.store.now
           c.args.globals.now c.add_member.ensures.goes_on.kept v.globals;
       held = c.in_ok-add_member.ensures.held;
       are = stepped (signatures_with tree c.loop-member.methods.items)
           (signatures_with tree c.add_member.new.methods.items) _ _ _ _ v.are (methods_apart m ms i x less is)
           c.in_ok-add_member.ensures.typed;
-      found = stepped (notes_of c.loop-member.checker.found.now) (notes_of c.add_member.new.checker.found.now) _ _ _ _
+      found = stepped (notes_of c.loop-member.state.found.now) (notes_of c.add_member.new.state.found.now) _ _ _ _
           v.found (members_found m base (is_in_names c.loop-member.bound) (is_in_names c.bind.new.bound) ms i x less is next)
           c.in_ok-add_member.ensures.found;
       goes_on = goes_further v.goes_on c.add_member.ensures.goes_on;

@@ -13,7 +13,7 @@ use Rattle.pc_notes.specs.Notes.{Note, notes_of}
 use Rattle.pc_rules.specs.Calls.{method_signature}
 use Rattle.pc_rules.specs.Context.{Signature}
 use Rattle.pc_rules.specs.Signatures.{signature_of}
-use Rattle.pc_rules.specs.Computed.Checkers.{AddsNotes}
+use Rattle.pc_rules.specs.Computed.TypingStates.{AddsNotes}
 use Rattle.pc_rules.specs.Computed.Signatures.{is_in_names, no_name, with_name, binds_as_method, method_findings}
 use Rattle.pc_rules.specs.Computed.Signatures.{def_findings, params_defaults}
 use Rattle.pc_callables.proofs.MembersHeld.{unbound, bound_as}
@@ -40,18 +40,18 @@ returns-in-None-clause-found g c =
     let named : is_in_names c.bind.new.bound ≡ with_name no_name (codes "self") = c.in_ok-bind.ensures
     ∙ ap (λ ks. with_name (λ t. is_one_of t (map string_bytes ks)) (codes "self")) c.with_hasher-names.ensures.empty in
     let same = ap (λ b. def_findings m b d) named ∙ ap (λ b. method_findings m b d) (sym free) in
-    subst (λ (l : List Note). OnOk c.read_signature.result (AddsNotes c.args.checker.now c.read_signature.new.checker l))
+    subst (λ (l : List Note). OnOk c.read_signature.result (AddsNotes c.args.state.now c.read_signature.new.state l))
     same c.read_signature.ensures.found
 
 pub copy_signature-requires : goal.copy_signature-requires
 copy_signature-requires g c =
-    method_held (g.S.TypeStore.has c.args.checker.now.store.now) c.args.globals.now.classes.now
+    method_held (g.S.TypeStore.has c.args.state.now.store.now) c.args.globals.now.classes.now
     c.requires.globals.entries c.in-Some.held.now
     (subst (IsMethodIfAny c.args.globals.now.classes.now) c.in-Some.is c.held_method.ensures.listed)
 
 pub find_defaults-requires-clause-given : goal.find_defaults-requires-clause-given
 find_defaults-requires-clause-given g c =
-    subst (All (HasParameter (g.S.TypeStore.has c.args.checker.now.store.now))) (sym c.as_slice-typed.ensures)
+    subst (All (HasParameter (g.S.TypeStore.has c.args.state.now.store.now))) (sym c.as_slice-typed.ensures)
     c.in_ok-signature-in-Some.ensures.given.params
 
 pub find_defaults-requires-clause-same : goal.find_defaults-requires-clause-same
@@ -93,4 +93,4 @@ returns-clause-found g c =
     c.deref.ensures.value
     ∙ ap (λ b. method_findings m b d) (sym is.0) in
     c.in_ok-find_defaults-in-Some.ensures.found
-    ∙ ap (λ (l : List Note). notes_of c.args.checker.now.found.now ++ l) same
+    ∙ ap (λ (l : List Note). notes_of c.args.state.now.found.now ++ l) same

@@ -11,7 +11,7 @@ use Rattle.pc_calls.proofs.methods.callee_of_method.Goals as goal
 
 pub push_method_offers-requires-clause-classes : goal.push_method_offers-requires-clause-classes
 push_method_offers-requires-clause-classes g c = entries_kept (g.S.TypeStore.has _) (g.S.TypeStore.has _)
-    c.loop-i.invariant.kept c.args.setting.now.globals.now.classes.now c.requires.classes
+    c.loop-i.invariant.kept c.args.context.now.globals.now.classes.now c.requires.classes
 
 pub push_method_offers-requires-clause-member : goal.push_method_offers-requires-clause-member
 push_method_offers-requires-clause-member g c = item_held g.S.TypeStore.has c.args.store.now c.loop-i.store
@@ -20,7 +20,7 @@ push_method_offers-requires-clause-member g c = item_held g.S.TypeStore.has c.ar
 
 pub loop-i-preserved : goal.loop-i-preserved
 loop-i-preserved g c = members_more g.S.TypeStore.has g.S.TypeStore.tree
-    (method_offers (context_with g.S.TypeStore.tree c.args.setting.now) (given_with c.args.given.now) _)
+    (method_offers (context_with g.S.TypeStore.tree c.args.context.now) (given_with c.args.given.now) _)
     c.args.store.now c.loop-i.store c.push_method_offers.new.store _ c.loop-i.offers.items
     c.push_method_offers.new.offers.items c.in_ok-members.members.items c.loop-i.i c.index.result.now (omega arith)
     c.index.ensures c.push_method_offers.ensures.kept c.loop-i.invariant c.in_ok-push_method_offers.ensures.offers
@@ -28,7 +28,7 @@ loop-i-preserved g c = members_more g.S.TypeStore.has g.S.TypeStore.tree
 pub returns-clause-callee : goal.returns-clause-callee
 returns-clause-callee g c =
     let tree = g.S.TypeStore.tree in
-    let ctx = context_with tree c.args.setting.now in
+    let ctx = context_with tree c.args.context.now in
     let gave = given_with c.args.given.now in
     subst (λ (w : List ℕ). IsCallee g.S.TypeStore.has tree c.any.new.self
     (record {

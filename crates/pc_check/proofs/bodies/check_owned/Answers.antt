@@ -55,7 +55,7 @@ check_function-requires-clause-context g c =
     let has = g.S.TypeStore.has in
     let tree = g.S.TypeStore.tree in
     let bodies = c.args.bodies.now in
-    let store = c.args.checker.now.store.now in
+    let store = c.args.state.now.store.now in
     let m = module_in bodies in
     let h = c.requires.bodies in
     let f = func_of c.args.def.now in
@@ -88,10 +88,10 @@ pub returns-in-Some-clause-found : goal.returns-in-Some-clause-found
 returns-in-Some-clause-found g c =
     let tree = g.S.TypeStore.tree in
     let m = module_in c.args.bodies.now in
-    let found = notes_of c.args.checker.now.found.now in
+    let found = notes_of c.args.state.now.found.now in
     let same : map tree c.args.bodies.now.globals.now.constants.now ≡ constants_of m =
     ap (map tree) c.requires.bodies.same_constants ∙ c.requires.bodies.constants in
-    subst (λ cs. OnOk c.check_function.result (notes_of c.check_function.new.checker.found.now
+    subst (λ cs. OnOk c.check_function.result (notes_of c.check_function.new.state.found.now
     ≡ function_finds c.args.bodies.now.globals.now.keeps m cs c.args.owner (func_of c.args.def.now) found)) same
     c.check_function.ensures.found
 

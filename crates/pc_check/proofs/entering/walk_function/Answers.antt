@@ -36,8 +36,8 @@ enter_receiver-requires g c =
       current = rw c.in_ok-env.ensures none;
     }
 
-pub enter-requires-clause-params : goal.enter-requires-clause-params
-enter-requires-clause-params g c =
+pub enter_parameters-requires-clause-params : goal.enter_parameters-requires-clause-params
+enter_parameters-requires-clause-params g c =
     let S = g.S.TypeStore in
     let old = c.args.walk.now in
     let new = c.enter_receiver.new.walk in
@@ -59,7 +59,7 @@ enter-requires-clause-params g c =
 
 pub check_suite-requires-clause-stands : goal.check_suite-requires-clause-stands
 check_suite-requires-clause-stands g c =
-    let h = c.in_ok-enter.ensures.bound.stands in
+    let h = c.in_ok-enter_parameters.ensures.bound.stands in
     record { context = h.context; declared = h.declared; current = h.current; out = tt }
 
 pub check_suite-requires-clause-long : goal.check_suite-requires-clause-long
@@ -83,8 +83,8 @@ check_suite-requires-clause-long g c =
     between in
     record {
       env_long = subst (λ (r : DeclaredTypes × Env). length r.1 ≡ length r.0)
-          (sym (ap (λ (b : BindingResult). (b.table, b.env)) c.in_ok-enter.ensures.bound.is)) behind;
-      broken_long = tt;
+          (sym (ap (λ (b : BindingResult). (b.table, b.env)) c.in_ok-enter_parameters.ensures.bound.is)) behind;
+      exit_env_long = tt;
     }
 
 pub returns-clause-pushed : goal.returns-clause-pushed
@@ -93,7 +93,7 @@ returns-clause-pushed g c =
     let tree = S.tree in
     let old = c.args.walk.now in
     let first = c.enter_receiver.new.walk in
-    let mid = c.enter.new.walk in
+    let mid = c.enter_parameters.new.walk in
     let later = c.check_suite.new.walk in
     let context = body_context_in S old in
     let resolve = context.context.resolve in
@@ -102,9 +102,9 @@ returns-clause-pushed g c =
     let n = c.args.count in
     let receiver = receiver_parameter c.args.owner in
     let r = c.in_ok-enter_receiver.ensures.bound in
-    let e = c.in_ok-enter.ensures.bound in
+    let e = c.in_ok-enter_parameters.ensures.bound in
     let s = c.in_ok-out.ensures.walked in
-    let env = c.enter.new.env in
+    let env = c.enter_parameters.new.env in
     let out = c.in_ok-out.out in
     let found = notes_of old.found.now in
     let declared_is = ap (env_of tree) c.requires.declared ∙ none_is tree n in
@@ -113,7 +113,7 @@ returns-clause-pushed g c =
     let start : DeclaredTypes × Env = (env_of tree mid.declared.now, env_of tree env) in
     let body = reached S later out c.check_suite.new.exit.env in
     let g1 = c.enter_receiver.ensures.goes_on in
-    let g2 = goes_further g1 c.enter.ensures.goes_on in
+    let g2 = goes_further g1 c.enter_parameters.ensures.goes_on in
     let g3 = goes_further g2 c.check_suite.ensures.goes_on in
     let received = ap (λ (b : BindingResult). (b.table, b.env)) r.is
     ∙ (λ i. enter_parameters resolve (declared_is i) (env_is i) receiver) in
@@ -130,7 +130,7 @@ returns-clause-pushed g c =
     c.args.owner def context found n
     middle start body
     c.requires.body c.requires.count received started walked in
-    c.in_ok-find_end.ensures.pushed
+    c.in_ok-check_end.ensures.pushed
     ∙ (λ i. notes_of later.found.now ++ end_finds (g3.context i).globals.now.outline.now.parents.now
     (tree (g3.context i).returned.now)
     def.name.place

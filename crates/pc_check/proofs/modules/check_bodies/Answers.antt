@@ -8,7 +8,7 @@ use Rattle.pc_module_rules.specs.Computed.Modules.{bodies_find}
 use Rattle.pc_check.proofs.CheckedModules.{ItemsAt, items_next, class_here, def_here, constant_passed, class_passed}
 use Rattle.pc_check.proofs.CheckedModules.{def_passed}
 use Rattle.pc_rules.specs.declared.typing_state.TypingState.{TypingState}
-use Rattle.pc_rules.proofs.Checkers.{goes_further}
+use Rattle.pc_rules.proofs.TypingStates.{goes_further}
 use Rattle.pc_check.proofs.ModuleBodies.{bodies_kept}
 use Rattle.pc_check.proofs.modules.check_bodies.Goals as goal
 use Rattle.pc_check.proofs.modules.check_bodies.Goals.{in-Constant, in-Class+in_ok-check_methods-in-Class}
@@ -56,9 +56,9 @@ loop-item-preserved g c =
     let functions = functions_in m.items in
     let n = c.loop-item.classes in
     let k = c.loop-item.functions in
-    let old = (notes_of c.loop-item.checker.found.now) in
-    let new = (notes_of c.match-item.checker.found.now) in
-    let total = bodies_find keeps m cs 0 0 (map item_of items) (notes_of c.args.checker.now.found.now) in
+    let old = (notes_of c.loop-item.state.found.now) in
+    let new = (notes_of c.match-item.state.found.now) in
+    let total = bodies_find keeps m cs 0 0 (map item_of items) (notes_of c.args.state.now.found.now) in
     let here : ItemsAt keeps m cs classes functions total before rest n k c.match-item.classes c.match-item.functions
     old
     new = elim c.match-item.branch [
@@ -66,28 +66,28 @@ loop-item-preserved g c =
           c.match-item.functions old new v.classes_stand v.functions_stand v.found
           x.first (constant_of w.in-Constant.field-0)
           (step ∙ ap (λ q. item_of_kind x.first q ∷ rest) w.in-Constant.is) w.classes-is w.functions-is
-          (λ j. notes_of ((w.checker-is j).found.now))
+          (λ j. notes_of ((w.state-is j).found.now))
       | in-Class+in_ok-check_methods-in-Class w ↦ class_passed keeps m cs classes functions total before rest n k
           c.match-item.classes c.match-item.functions old new v.classes_stand v.functions_stand v.found
           x.first (class_of w.in-Class.class) (step ∙ ap (λ q. item_of_kind x.first q ∷ rest) w.in-Class.is)
-          w.classes-is w.functions-is ((λ j. notes_of ((w.checker-is j).found.now))
+          w.classes-is w.functions-is ((λ j. notes_of ((w.state-is j).found.now))
           ∙ w.in_ok-check_methods-in-Class.ensures.found)
       | in-Def+in_ok-check_owned-in-Def w ↦ def_passed keeps m cs classes functions total before rest n k
           c.match-item.classes c.match-item.functions old new v.classes_stand v.functions_stand v.found
           x.first (func_of w.in-Def.def) (step ∙ ap (λ q. item_of_kind x.first q ∷ rest) w.in-Def.is) w.classes-is
-          w.functions-is ((λ j. notes_of ((w.checker-is j).found.now)) ∙ w.in_ok-check_owned-in-Def.ensures.found)
+          w.functions-is ((λ j. notes_of ((w.state-is j).found.now)) ∙ w.in_ok-check_owned-in-Def.ensures.found)
     ] in
     record {
       bodies = elim c.match-item.branch [
         | in-Constant w ↦ subst (λ (k : TypingState _ _). IsModuleBodies (has k.store.now) tree c.args.bodies.now)
-            (sym w.checker-is) v.bodies
+            (sym w.state-is) v.bodies
         | in-Class+in_ok-check_methods-in-Class w ↦ subst (λ (k : TypingState _ _). IsModuleBodies (has k.store.now) tree
             c.args.bodies.now)
-            (sym w.checker-is) (bodies_kept has tree c.loop-item.checker.store.now w.check_methods.new.checker.store.now
+            (sym w.state-is) (bodies_kept has tree c.loop-item.state.store.now w.check_methods.new.state.store.now
             w.check_methods.ensures.goes_on.kept c.args.bodies.now v.bodies)
         | in-Def+in_ok-check_owned-in-Def w ↦ subst (λ (k : TypingState _ _). IsModuleBodies (has k.store.now) tree
             c.args.bodies.now)
-            (sym w.checker-is) (bodies_kept has tree c.loop-item.checker.store.now w.check_owned.new.checker.store.now
+            (sym w.state-is) (bodies_kept has tree c.loop-item.state.store.now w.check_owned.new.state.store.now
             w.check_owned.ensures.goes_on.kept c.args.bodies.now v.bodies)
       ];
       classes_counted = let h = v.classes_counted in elim c.match-item.branch [
@@ -104,9 +104,9 @@ loop-item-preserved g c =
       functions_stand = here.functions_stand;
       found = here.found;
       goes_on = elim c.match-item.branch [
-        | in-Constant w ↦ rw w.checker-is v.goes_on
-        | in-Class+in_ok-check_methods-in-Class w ↦ rw w.checker-is
+        | in-Constant w ↦ rw w.state-is v.goes_on
+        | in-Class+in_ok-check_methods-in-Class w ↦ rw w.state-is
             (goes_further v.goes_on w.check_methods.ensures.goes_on)
-        | in-Def+in_ok-check_owned-in-Def w ↦ rw w.checker-is (goes_further v.goes_on w.check_owned.ensures.goes_on)
+        | in-Def+in_ok-check_owned-in-Def w ↦ rw w.state-is (goes_further v.goes_on w.check_owned.ensures.goes_on)
       ];
     }

@@ -8,7 +8,7 @@ use Rattle.pc_check.specs.Internal.ModuleWalk.{module_in, IsModuleBodies}
 use Rattle.pc_module_rules.specs.Computed.Modules.{methods_find}
 use Rattle.pc_check.proofs.CheckedModules.{MembersAt, members_next, method_here, field_passed, method_passed}
 use Rattle.pc_rules.specs.declared.typing_state.TypingState.{TypingState}
-use Rattle.pc_rules.proofs.Checkers.{goes_further}
+use Rattle.pc_rules.proofs.TypingStates.{goes_further}
 use Rattle.pc_check.proofs.ModuleBodies.{bodies_kept}
 use Rattle.pc_check.proofs.modules.check_methods.Goals as goal
 use Rattle.pc_check.proofs.modules.check_methods.Goals.{in-Field, in-Method+in_ok-check_owned-in-Method}
@@ -39,28 +39,28 @@ loop-member-preserved g c =
     let rest = map member_of (drop (i + 1) ms) in
     let step = members_next ms i c.member-item.result c.loop-member-test.true c.member-item.is in
     let total = methods_find keeps m (constants_of m) c.args.class 0 (map member_of ms)
-    (notes_of c.args.checker.now.found.now) in
+    (notes_of c.args.state.now.found.now) in
     let here : MembersAt keeps m (constants_of m) c.args.class all total before rest n c.match-member.methods
-    (notes_of c.loop-member.checker.found.now) (notes_of c.match-member.checker.found.now) =
+    (notes_of c.loop-member.state.found.now) (notes_of c.match-member.state.found.now) =
     elim c.match-member.branch [
       | in-Field w ↦ field_passed keeps m (constants_of m) c.args.class all total before rest n c.match-member.methods
-          (notes_of c.loop-member.checker.found.now) (notes_of c.match-member.checker.found.now) v.stand v.found
+          (notes_of c.loop-member.state.found.now) (notes_of c.match-member.state.found.now) v.stand v.found
           (field_of w.in-Field.field-0) (step ∙ ap (λ y. member_of y ∷ rest) w.in-Field.is) w.methods-is
-          (λ j. notes_of ((w.checker-is j).found.now))
+          (λ j. notes_of ((w.state-is j).found.now))
       | in-Method+in_ok-check_owned-in-Method w ↦ method_passed keeps m (constants_of m) c.args.class all total before
           rest
-          n c.match-member.methods (notes_of c.loop-member.checker.found.now)
-          (notes_of c.match-member.checker.found.now) v.stand v.found
+          n c.match-member.methods (notes_of c.loop-member.state.found.now)
+          (notes_of c.match-member.state.found.now) v.stand v.found
           (func_of w.in-Method.method) (step ∙ ap (λ y. member_of y ∷ rest) w.in-Method.is) w.methods-is
-          ((λ j. notes_of ((w.checker-is j).found.now)) ∙ w.in_ok-check_owned-in-Method.ensures.found)
+          ((λ j. notes_of ((w.state-is j).found.now)) ∙ w.in_ok-check_owned-in-Method.ensures.found)
     ] in
     record {
       bodies = elim c.match-member.branch [
         | in-Field w ↦ subst (λ (k : TypingState _ _). IsModuleBodies (has k.store.now) tree c.args.bodies.now)
-            (sym w.checker-is) v.bodies
+            (sym w.state-is) v.bodies
         | in-Method+in_ok-check_owned-in-Method w ↦ subst (λ (k : TypingState _ _). IsModuleBodies (has k.store.now) tree
             c.args.bodies.now)
-            (sym w.checker-is) (bodies_kept has tree c.loop-member.checker.store.now w.check_owned.new.checker.store.now
+            (sym w.state-is) (bodies_kept has tree c.loop-member.state.store.now w.check_owned.new.state.store.now
             w.check_owned.ensures.goes_on.kept c.args.bodies.now v.bodies)
       ];
       counted = let h = v.counted in elim c.match-member.branch [
@@ -70,8 +70,8 @@ loop-member-preserved g c =
       stand = here.stand;
       found = here.found;
       goes_on = elim c.match-member.branch [
-        | in-Field w ↦ rw w.checker-is v.goes_on
-        | in-Method+in_ok-check_owned-in-Method w ↦ rw w.checker-is
+        | in-Field w ↦ rw w.state-is v.goes_on
+        | in-Method+in_ok-check_owned-in-Method w ↦ rw w.state-is
             (goes_further v.goes_on w.check_owned.ensures.goes_on)
       ];
     }

@@ -41,12 +41,12 @@ use Rattle.pc_walk.proofs.Settled.{agreed_taken_in, suite_taken_in, next_taken_i
 use Rattle.pc_walk.proofs.Untouched.{narrowed_long, head_at_long, item_long}
 use Rattle.pc_walk.proofs.Walks.{same_walk, goes_further, in_body_context, env_kept, way_kept, one_kept, context_on}
 use Rattle.pc_walk.proofs.Walks.{stands_on}
-use Rattle.pc_check.specs.Internal.StatementWalk.{HasAllLocals, IsAsLongIfAny, BreaksSettle, BreaksStaySettled}
-use Rattle.pc_check.specs.Internal.Walked.{StandsIn, Walked, reached, forked}
+use Rattle.pc_check.specs.Internal.StatementWalk.{HasAllLocals, IsAsLongIfAny, BreaksAreSubsumed, BreaksStaySubsumed}
+use Rattle.pc_check.specs.Internal.Walked.{IsValidWith, Walked, reached, branching}
 use Rattle.pc_check.proofs.Agreed.{step_long, among_same, first_touched, later_touched, well_formed_if_any}
 use Rattle.pc_check.proofs.Breaking.{self_among, self_agrees, way_more, way_before, starts_settled, noted_more}
 use Rattle.pc_check.proofs.Breaking.{noted_settles}
-use Rattle.pc_check.proofs.Settling.{branch_out, otherwise_settles}
+use Rattle.pc_check.proofs.Subsuming.{branch_out, otherwise_settles}
 use Rattle.pc_check.proofs.Agreed.{branch_parts, while_parts, first_among, later_among, step_agrees}
 use Rattle.pc_check.proofs.Agreed.{narrowed_agrees, branches_agree, if_parts, while_agrees, for_agrees}
 use Rattle.pc_check.proofs.Walked.{no_statement_left, no_branch_left, branch_walked, branches_from, otherwise_walked}
@@ -111,13 +111,13 @@ check_suite-loop-statement-preserved g t c =
     record {
       goes_on = goes_further v.goes_on on;
       stands = w.stands;
-      long = subst HasAllLocals (sym w.is) (step_long context before.table before.env before.broken before.found s v.long);
+      long = subst HasAllLocals (sym w.is) (step_long context before.table before.env before.exit_env before.found s v.long);
       breaks = c.in_ok-env.ensures.settled;
       settled = in_body_context S here.walk new (λ (f : RustBodyContext _). (locals : List ℕ) (base : Option Env)
-          → BreaksSettle (class_parents f.globals.now) locals (touched_by (meanings f.names.now) all) unsettled
-          first.broken base first.env
-          → BreaksSettle (class_parents f.globals.now) locals (touched_by (meanings f.names.now) rest) later
-          behind.broken base behind.env) on
+          → BreaksAreSubsumed (class_parents f.globals.now) locals (touched_by (meanings f.names.now) all) unsettled
+          first.exit_env base first.env
+          → BreaksAreSubsumed (class_parents f.globals.now) locals (touched_by (meanings f.names.now) rest) later
+          behind.exit_env base behind.env) on
           (λ locals base h.
           let here_settled = v.settled locals base h in
           let touched = subst (λ ss. AreAmong locals (touched_by resolve ss)) next here_settled.among in
@@ -125,7 +125,7 @@ check_suite-loop-statement-preserved g t c =
           record {
             among = later_among context locals s rest touched;
             agree = subst (λ (x : Reached). WaysAgree locals base x.env) (sym w.is)
-                (step_agrees context locals before.table before.env before.broken before.found s base held v.long now
+                (step_agrees context locals before.table before.env before.exit_env before.found s base held v.long now
                 here_settled.agree);
             taken_in = one locals base
                 (record { among = now; agree = here_settled.agree; taken_in = here_settled.taken_in });
@@ -141,8 +141,8 @@ check_suite-returns-clause-breaks g t c =
     let v = here.invariant in
     let all = stmts_of_list c.args.body.now in
     let first = reached S c.args.walk.now c.args.env c.args.exit.now.env in
-    subst (λ (f : RustBodyContext _). BreaksStaySettled (class_parents f.globals.now)
-    (touched_by (meanings f.names.now) all) c.args.exit.now.unsettled.items here.exit.unsettled.items first.broken
+    subst (λ (f : RustBodyContext _). BreaksStaySubsumed (class_parents f.globals.now)
+    (touched_by (meanings f.names.now) all) c.args.exit.now.unsettled.items here.exit.unsettled.items first.exit_env
     first.env
     (option_map (env_of S.tree) here.exit.env)) v.goes_on.context (λ locals base h. (v.settled locals base h).taken_in)
 
@@ -170,7 +170,7 @@ check_next-returns-in_ok-declare_unreached-in-None-clause-walked g t c =
     let declared = d.declared c.args.statement.now.first in
     let way = option_map (env_of S.tree) c.args.exit.now.env in
     rw c.in-None.is (record {
-      is = λ i. record { table = declared.is i; env = None; broken = way; found = d.found i };
+      is = λ i. record { table = declared.is i; env = None; exit_env = way; found = d.found i };
       stands = record {
         context = context_on S old new c.requires.stands.context c.declare_unreached.ensures.goes_on;
         declared = declared.holds;
@@ -196,7 +196,7 @@ check_next-returns-in_ok-note_touched-in-Some-clause-breaks g t c = λ locals ba
     c.note_touched.new.unsettled.items locals base
     (c.in_ok-note_touched-in-Some.ensures c.args.statement.now.first)
     (c.in_ok-out-in-Some.ensures.breaks locals base
-    (subst (λ (o : _). BreaksSettle bases locals (touched_by_stmt (meanings old.context.names.now) s)
+    (subst (λ (o : _). BreaksAreSubsumed bases locals (touched_by_stmt (meanings old.context.names.now) s)
     c.args.exit.now.unsettled.items (option_map (env_of S.tree) c.args.exit.now.env) base
     (option_map (env_of S.tree) o))
     c.in-Some.is h))
@@ -216,21 +216,21 @@ check_next-returns-in_ok-note_touched-in-Some-clause-settled g t c =
     let behind = reached S later c.in_ok-out-in-Some.out c.check_stmt.new.exit.env in
     let w = c.in_ok-out-in-Some.ensures.walked in
     let on = c.check_stmt.ensures.goes_on in
-    let stands = subst (λ (o : _). StandsIn S old o c.args.exit.now.env) c.in-Some.is c.requires.stands in
+    let stands = subst (λ (o : _). IsValidWith S old o c.args.exit.now.env) c.in-Some.is c.requires.stands in
     let long = subst (λ (o : _). HasAllLocals (reached S old o c.args.exit.now.env)) c.in-Some.is c.requires.long in
-    let breaks = subst (λ (o : _). WayTakesIn bases c.args.exit.now.unsettled.items before.broken
+    let breaks = subst (λ (o : _). WayTakesIn bases c.args.exit.now.unsettled.items before.exit_env
     (option_map (env_of S.tree) o)) c.in-Some.is c.requires.breaks in
     let noted = subst (λ (f : RustBodyContext _). AreNoted c.check_stmt.new.exit.env
     c.check_stmt.new.exit.unsettled.items
     (touched_by_stmt (meanings f.names.now) s) c.note_touched.new.unsettled.items) on.context
     (c.in_ok-note_touched-in-Some.ensures c.args.statement.now.first) in
     let one = c.in_ok-out-in-Some.ensures.breaks touched (Some (env_of S.tree env))
-    (starts_settled bases touched c.args.exit.now.unsettled.items before.broken (Some (env_of S.tree env)) breaks) in
+    (starts_settled bases touched c.args.exit.now.unsettled.items before.exit_env (Some (env_of S.tree env)) breaks) in
     let agree = subst (λ (x : Reached). WaysAgree touched (Some (env_of S.tree env)) x.env) (sym w.is)
-    (step_agrees context touched before.table before.env before.broken before.found s (Some (env_of S.tree env))
+    (step_agrees context touched before.table before.env before.exit_env before.found s (Some (env_of S.tree env))
     stands.current.well_formed long (self_among touched) (self_agrees touched (Some (env_of S.tree env)))) in
     in_body_context S old later (λ (f : RustBodyContext _). WayTakesIn (class_parents f.globals.now)
-    c.note_touched.new.unsettled.items behind.broken behind.env) on
+    c.note_touched.new.unsettled.items behind.exit_env behind.env) on
     (noted_settles bases (env_of S.tree) c.check_stmt.new.exit.env c.check_stmt.new.exit.unsettled.items touched
     c.note_touched.new.unsettled.items (env_of S.tree env) behind.env noted one agree)
 
@@ -244,7 +244,7 @@ pub check_stmt-returns-in_ok-break_out-in-Break-clause-breaks :
 check_stmt-returns-in_ok-break_out-in-Break-clause-breaks g t c = λ locals base h.
     let tree = g.S.TypeStore.tree in
     way_before (class_parents c.args.walk.now.context.globals.now) c.break_out.new.unsettled.items locals
-    (option_map (env_of tree) c.break_out.new.broken) base (env_of tree c.args.env) h.agree
+    (option_map (env_of tree) c.break_out.new.exit_env) base (env_of tree c.args.env) h.agree
     c.in_ok-break_out-in-Break.ensures.settled
 
 pub check_stmt-returns-in-Pass-clause-walked : goal.check_stmt-returns-in-Pass-clause-walked
@@ -264,7 +264,7 @@ check_stmt-returns-in_ok-break_out-in-Break-clause-walked g t c =
       is = λ i. record {
         table = env_of S.tree (b.quiet.declared i);
         env = None;
-        broken = b.joined.is i;
+        exit_env = b.joined.is i;
         found = b.quiet.found i;
       };
       stands = record { context = stood.context; declared = stood.declared; current = tt; out = b.joined.holds };
@@ -320,7 +320,7 @@ check_stmt-returns-in_ok-env-in-Assert-clause-walked g t c =
       is = λ i. record {
         table = env_of S.tree (a.finds.declared i);
         env = Some (behind i);
-        broken = option_map (env_of S.tree) way;
+        exit_env = option_map (env_of S.tree) way;
         found = in_turn (notes_of old.found.now) (finds_in K None condition)
             (option_finds F (narrowed_standing K false condition) None message) (notes_of new.found.now) pushed i;
       };
@@ -401,7 +401,7 @@ check_stmt-returns-in-While-clause-walked g t c =
     ∙ ap (λ e. while_loop c.args.first (expr_of e) (stmts_of_list kind.body.items)) c.deref-in-While-2.ensures
     ∙ sym (while_tree c.args.first kind.condition kind.body) ∙ sym (ap (stmt_of_kind c.args.first) kind.is) in
     subst (λ (s : Stmt). IfOk c.check_while.result (λ out. Walked S c.args.walk.now (Some c.args.env) way new out way
-    (λ f w. step f w.table w.env w.broken w.found s))) is
+    (λ f w. step f w.table w.env w.exit_env w.found s))) is
     (c.check_while.ensures.walked c.args.first way c.requires.stands.out)
 
 pub check_stmt-returns-in-For-clause-breaks : goal.check_stmt-returns-in-For-clause-breaks
@@ -419,7 +419,7 @@ check_stmt-returns-in-For-clause-walked g t c =
     ∙ ap (λ e. for_loop c.args.first name (expr_of e) (stmts_of_list kind.body.items)) c.deref-in-For-2.ensures
     ∙ sym (for_tree c.args.first kind.name kind.iterable kind.body) ∙ sym (ap (stmt_of_kind c.args.first) kind.is) in
     subst (λ (s : Stmt). IfOk c.check_for.result (λ out. Walked S c.args.walk.now (Some c.args.env) way new out way
-    (λ f w. step f w.table w.env w.broken w.found s))) is
+    (λ f w. step f w.table w.env w.exit_env w.found s))) is
     (c.check_for.ensures.walked c.args.first way c.requires.stands.out)
 
 pub check_stmt-check_branches-requires : goal.check_stmt-check_branches-requires
@@ -430,9 +430,9 @@ check_stmt-check_branches-requires g t c κs within = (
 
 pub check_stmt-check_otherwise-requires : goal.check_stmt-check_otherwise-requires
 check_stmt-check_otherwise-requires g t c κs within =
-    let f = c.in_ok-fork-in-If.ensures in (
+    let f = c.in_ok-if_state-in-If.ensures in (
       first_of (search (rules, the_lemmas), grind (the_lemmas, arith)),
-      (within.0, (within.1, (f.walked.stands, (f.walked.met, (f.settled, f.breaks_settle))))),
+      (within.0, (within.1, (f.walked.stands, (f.walked.met, (f.settled, f.breaks_subsumed))))),
     )
 
 pub check_stmt-returns-in_ok-out-in-If-clause-breaks : goal.check_stmt-returns-in_ok-out-in-If-clause-breaks
@@ -443,12 +443,12 @@ check_stmt-returns-in_ok-out-in-If-clause-breaks g t c = λ locals base h.
     let context = body_context_in S old in
     let resolve = context.context.resolve in
     let first = c.args.first in
-    let f = c.in_ok-fork-in-If.ensures in
-    let fork = c.in_ok-fork-in-If.fork in
+    let f = c.in_ok-if_state-in-If.ensures in
+    let if_state = c.in_ok-if_state-in-If.if_state in
     let later = branches_of_list c.deref-in-If.result.now in
     let suite = stmts_of_list c.deref-in-If-2.result.now in
-    let before = forked S old c.args.env None c.args.exit.now.env in
-    let behind = forked S mid fork.last fork.ways.met c.check_branches.new.exit.env in
+    let before = branching S old c.args.env None c.args.exit.now.env in
+    let behind = branching S mid if_state.last if_state.ways.met c.check_branches.new.exit.env in
     let out = option_map (env_of S.tree) c.check_otherwise.new.exit.env in
     let if_is : stmt_of_kind first c.args.kind.now ≡ conditional first later suite =
     ap (stmt_of_kind first) c.in-If.is ∙ if_tree first c.in-If.branches c.in-If.suite
@@ -459,12 +459,12 @@ check_stmt-returns-in_ok-out-in-If-clause-breaks g t c = λ locals base h.
     (subst (λ s. AreAmong locals (touched_by_stmt resolve s)) if_is h.among) in
     let one = f.breaks locals base (record { among = parts.0; agree = h.agree; taken_in = h.taken_in }) in
     let agree = subst (λ (r : BranchesResult). WaysAgree locals base (Some r.last)) (sym f.walked.is)
-    (branches_agree context locals before.table before.last before.broken before.found later base
+    (branches_agree context locals before.table before.last before.exit_env before.found later base
     c.requires.stands.current.well_formed c.requires.long.env_long parts.0 h.agree) in
-    let two = subst (λ (x : RustBodyContext _). BreaksStaySettled (class_parents x.globals.now)
+    let two = subst (λ (x : RustBodyContext _). BreaksStaySubsumed (class_parents x.globals.now)
     (touched_by (meanings x.names.now) suite) c.check_branches.new.exit.unsettled.items
     c.check_otherwise.new.exit.unsettled.items
-    behind.broken (Some behind.last) out) c.check_branches.ensures.goes_on.context c.in_ok-out-in-If.ensures.breaks in
+    behind.exit_env (Some behind.last) out) c.check_branches.ensures.goes_on.context c.in_ok-out-in-If.ensures.breaks in
     two locals base (record { among = parts.1; agree = agree; taken_in = one })
 
 pub check_stmt-returns-in_ok-out-in-If-clause-walked : goal.check_stmt-returns-in_ok-out-in-If-clause-walked
@@ -474,19 +474,19 @@ check_stmt-returns-in_ok-out-in-If-clause-walked g t c =
     let mid = c.check_branches.new.walk in
     let context = body_context_in S old in
     let first = c.args.first in
-    let f = c.in_ok-fork-in-If.ensures.walked in
-    let fork = c.in_ok-fork-in-If.fork in
+    let f = c.in_ok-if_state-in-If.ensures.walked in
+    let if_state = c.in_ok-if_state-in-If.if_state in
     let o = c.in_ok-out-in-If.ensures.walked in
     let suite = stmts_of_list c.deref-in-If-2.result.now in
-    let behind = forked S mid fork.last fork.ways.met c.check_branches.new.exit.env in
+    let behind = branching S mid if_state.last if_state.ways.met c.check_branches.new.exit.env in
     let before = reached S old (Some c.args.env) c.args.exit.now.env in
-    let stepped : Stmt → Reached = step context before.table before.env before.broken before.found in
+    let stepped : Stmt → Reached = step context before.table before.env before.exit_env before.found in
     let is = ap (λ bs. conditional first (branches_of_list bs) suite) c.deref-in-If.ensures.value
     ∙ ap (λ ss. conditional first (branches_of_list c.in-If.branches.items) (stmts_of_list ss))
     c.deref-in-If-2.ensures.value
     ∙ sym (if_tree first c.in-If.branches c.in-If.suite) ∙ sym (ap (stmt_of_kind first) c.in-If.is) in
     record {
-      is = walks_on S old mid c.check_otherwise.new.walk (Some fork.last) c.check_branches.new.exit.env
+      is = walks_on S old mid c.check_otherwise.new.walk (Some if_state.last) c.check_branches.new.exit.env
           c.in_ok-out-in-If.out c.check_otherwise.new.exit.env
           (λ f w. behind_branches f behind.ways (walk_suite f w suite)) c.check_branches.ensures.goes_on o
           ∙ branches_from context behind _ suite f.is ∙ ap stepped is;
@@ -557,7 +557,7 @@ check_while-check_suite-requires g t c κs within =
               record {
                 env_long = ap (λ (e : Env). length e) where_true ∙ narrowed_long context table true condition head
                     head_long;
-                broken_long = ap (λ (e : Env). length e) where_false
+                exit_env_long = ap (λ (e : Env). length e) where_false
                     ∙ narrowed_long context table false condition head head_long;
               },
               breaks,
@@ -592,12 +592,12 @@ check_while-returns-clause-walked g t c = λ p way held.
     let from : reached S later (Some ways.where_true) (Some ways.where_false) ≡ record {
       table = table;
       env = Some (narrowed_at context table true condition first);
-      broken = Some (narrowed_at context table false condition first);
+      exit_env = Some (narrowed_at context table false condition first);
       found = notes_of old.found.now ++ finds_in (standing_here context table first) None condition;
     } = λ i. record {
       table = env_of S.tree ((a.finds.declared ∙ q.declared) i);
       env = Some ((a.where_true.is ∙ narrowed_from S old mid on q head first start.is true condition) i);
-      broken = Some ((a.where_false.is ∙ narrowed_from S old mid on q head first start.is false condition) i);
+      exit_env = Some ((a.where_false.is ∙ narrowed_from S old mid on q head first start.is false condition) i);
       found = (a.finds.pushed ∙ finds_from S old mid on q head first start.is condition) i;
     } in
     let walked = walks_on S old later new (Some ways.where_true) (Some ways.where_false) c.in_ok-check_suite.field-0
@@ -685,7 +685,7 @@ check_for-check_suite-requires g t c κs within =
             (
               record {
                 env_long = ap (λ (r : BindingResult). length r.env) b.is ∙ sizes.1 ∙ sym table_long;
-                broken_long = ap (λ (e : Env). length e) copied.ensures.is ∙ head_long ∙ sym table_long;
+                exit_env_long = ap (λ (e : Env). length e) copied.ensures.is ∙ head_long ∙ sym table_long;
               },
               in_body_context S mid new (λ (f : RustBodyContext _). WayTakesIn (class_parents f.globals.now)
                   locals (Some copy) (Some (env_of S.tree c.in_ok-inside.inside))) on
@@ -776,7 +776,7 @@ check_otherwise-check_suite-requires g t c κs within = (
       (
         c.requires.stands,
         (
-          record { env_long = c.requires.settled.last_long; broken_long = c.requires.settled.broken_long },
+          record { env_long = c.requires.settled.last_long; exit_env_long = c.requires.settled.exit_env_long },
           c.requires.breaks,
         ),
       ),
@@ -786,7 +786,7 @@ check_otherwise-check_suite-requires g t c κs within = (
 
 pub check_otherwise-join_exit-requires-clause-ways : goal.check_otherwise-join_exit-requires-clause-ways
 check_otherwise-join_exit-requires-clause-ways g t c =
-    way_kept g.S.TypeStore c.args.walk.now c.check_suite.new.walk c.args.fork.ways.met
+    way_kept g.S.TypeStore c.args.walk.now c.check_suite.new.walk c.args.if_state.ways.met
     c.check_suite.ensures.goes_on c.requires.ways
 
 pub check_otherwise-join_exit-requires-clause-taken_in : goal.check_otherwise-join_exit-requires-clause-taken_in
@@ -796,20 +796,20 @@ check_otherwise-join_exit-requires-clause-taken_in g t c =
     let new = c.check_suite.new.walk in
     let on = c.check_suite.ensures.goes_on in
     let context = body_context_in S old in
-    let ways = c.args.fork.ways in
+    let ways = c.args.if_state.ways in
     let touched = c.in_ok-touched.touched.items in
     let out = option_map (env_of S.tree) c.in_ok-out.out in
-    let fork = forked S old c.args.fork.last ways.met c.args.exit.now.env in
+    let if_state = branching S old c.args.if_state.last ways.met c.args.exit.now.env in
     let o = stmts_of_list c.args.otherwise.now in
     let later = among_same touched (touched_by (meanings new.context.names.now) o) (λ x. c.in_ok-touched.ensures x) in
     let among = subst (λ (f : RustBodyContext _). AreAmong touched (touched_by (meanings f.names.now) o)) on.context
     later in
-    let agrees = subst (λ (x : Reached). AgreesIfAny touched fork.last x.env) (sym c.in_ok-out.ensures.walked.is)
-    (otherwise_settles context touched fork.table fork.last fork.broken fork.found o
+    let agrees = subst (λ (x : Reached). AgreesIfAny touched if_state.last x.env) (sym c.in_ok-out.ensures.walked.is)
+    (otherwise_settles context touched if_state.table if_state.last if_state.exit_env if_state.found o
     c.requires.stands.current.well_formed c.requires.settled.last_long among) in
     in_body_context S old new (λ (f : RustBodyContext _). WayTakesIn (class_parents f.globals.now)
-    (ways.unsettled.items ++ touched) fork.ways out) on
-    (suite_taken_in context.context.bases ways.unsettled.items touched fork.ways out fork.last
+    (ways.unsettled.items ++ touched) if_state.ways out) on
+    (suite_taken_in context.context.bases ways.unsettled.items touched if_state.ways out if_state.last
     c.requires.settled.taken_in agrees)
 
 pub check_otherwise-returns-clause-breaks : goal.check_otherwise-returns-clause-breaks
@@ -824,16 +824,16 @@ check_otherwise-returns-clause-walked g t c =
     let s = c.in_ok-out.ensures.walked in
     let j = c.in_ok-joined.ensures in
     let joined = c.in_ok-joined.joined.met in
-    let broken = c.check_suite.new.exit.env in
-    let ways = option_map (env_of S.tree) c.args.fork.ways.met in
-    let out = reached S mid c.in_ok-out.out broken in
+    let exit_env = c.check_suite.new.exit.env in
+    let ways = option_map (env_of S.tree) c.args.if_state.ways.met in
+    let out = reached S mid c.in_ok-out.out exit_env in
     let met : option_map (env_of S.tree) joined ≡ with_way context.context.bases out.table ways out.env =
     j.joined.is ∙ (λ i. with_way (c.check_suite.ensures.goes_on.context i).globals.now.outline.now.parents.now out.table
     ways out.env) in
-    let stood = quiet_stands S mid new c.join_exit.ensures.goes_on j.quiet None broken
+    let stood = quiet_stands S mid new c.join_exit.ensures.goes_on j.quiet None exit_env
     (record { context = s.stands.context; declared = s.stands.declared; current = tt; out = s.stands.out }) in
     record {
-      is = quiet_reached S mid new c.join_exit.ensures.goes_on j.quiet joined broken
+      is = quiet_reached S mid new c.join_exit.ensures.goes_on j.quiet joined exit_env
           ∙ otherwise_walked context ways out _ (option_map (env_of S.tree) joined) s.is met;
       stands = record { context = stood.context; declared = stood.declared; current = j.joined.holds; out = stood.out };
     }
@@ -857,7 +857,7 @@ check_branches-loop-branch-init g t c =
       goes_on = same_walk;
       stands = c.requires.stands;
       ways = tt;
-      settled = record { last_long = long.env_long; broken_long = long.broken_long; taken_in = tt };
+      settled = record { last_long = long.env_long; exit_env_long = long.exit_env_long; taken_in = tt };
       breaks = c.requires.breaks;
       kept = λ locals base h. h;
       is = refl;
@@ -868,7 +868,7 @@ check_branches-loop-branch-preserved g t c =
     let S = g.S.TypeStore in
     let here = c.loop-branch in
     let new = c.check_branch.new.walk in
-    let w = c.in_ok-fork.ensures.walked in
+    let w = c.in_ok-if_state.ensures.walked in
     let on = c.check_branch.ensures.goes_on in
     let v = here.invariant in
     let context = body_context_in S here.walk in
@@ -878,9 +878,9 @@ check_branches-loop-branch-preserved g t c =
     let all = branches_of_list c.args.branches.now in
     let condition = expr_of item.condition in
     let body = stmts_of_list item.body.items in
-    let first = forked S c.args.walk.now c.args.env None c.args.exit.now.env in
-    let before = forked S here.walk here.fork.last here.fork.ways.met here.exit.env in
-    let behind = forked S new c.in_ok-fork.fork.last c.in_ok-fork.fork.ways.met c.check_branch.new.exit.env in
+    let first = branching S c.args.walk.now c.args.env None c.args.exit.now.env in
+    let before = branching S here.walk here.if_state.last here.if_state.ways.met here.exit.env in
+    let behind = branching S new c.in_ok-if_state.if_state.last c.in_ok-if_state.if_state.ways.met c.check_branch.new.exit.env in
     let next = branches_next c.args.branches.now here.branch-index c.branch-item.result c.loop-branch-test.true
     c.branch-item.is in
     let one = branch_tree c.branch-item.result no_branches in
@@ -892,13 +892,13 @@ check_branches-loop-branch-preserved g t c =
       goes_on = goes_further v.goes_on on;
       stands = w.stands;
       ways = w.met;
-      settled = c.in_ok-fork.ensures.settled;
-      breaks = c.in_ok-fork.ensures.breaks_settle;
+      settled = c.in_ok-if_state.ensures.settled;
+      breaks = c.in_ok-if_state.ensures.breaks_subsumed;
       kept = in_body_context S here.walk new (λ (f : RustBodyContext _). (locals : List ℕ) (base : Option Env)
-          → BreaksSettle (class_parents f.globals.now) locals (touched_by_branches (meanings f.names.now) all)
-          unsettled first.broken base (Some first.last)
-          → BreaksSettle (class_parents f.globals.now) locals (touched_by_branches (meanings f.names.now) rest)
-          later behind.broken base (Some behind.last)) on
+          → BreaksAreSubsumed (class_parents f.globals.now) locals (touched_by_branches (meanings f.names.now) all)
+          unsettled first.exit_env base (Some first.last)
+          → BreaksAreSubsumed (class_parents f.globals.now) locals (touched_by_branches (meanings f.names.now) rest)
+          later behind.exit_env base (Some behind.last)) on
           (λ locals base h.
           let kept = v.kept locals base h in
           let touched = subst (λ bs. AreAmong locals (touched_by_branches resolve bs)) next kept.among in
@@ -908,7 +908,7 @@ check_branches-loop-branch-preserved g t c =
             agree = subst (λ (r : BranchesResult). WaysAgree locals base (Some r.last)) (sym is)
                 (narrowed_agrees context locals before.table before.last false condition base held v.settled.last_long
                 (branch_parts context locals condition body now).0 kept.agree);
-            taken_in = c.in_ok-fork.ensures.breaks locals base (record {
+            taken_in = c.in_ok-if_state.ensures.breaks locals base (record {
               among = subst (λ bs. AreAmong locals (touched_by_branches resolve bs)) (sym one) now;
               agree = kept.agree;
               taken_in = kept.taken_in;
@@ -924,10 +924,10 @@ check_branches-returns-clause-breaks g t c =
     let here = c.loop-branch in
     let v = here.invariant in
     let all = branches_of_list c.args.branches.now in
-    let first = forked S c.args.walk.now c.args.env None c.args.exit.now.env in
-    subst (λ (f : RustBodyContext _). BreaksStaySettled (class_parents f.globals.now)
+    let first = branching S c.args.walk.now c.args.env None c.args.exit.now.env in
+    subst (λ (f : RustBodyContext _). BreaksStaySubsumed (class_parents f.globals.now)
     (touched_by_branches (meanings f.names.now) all) c.args.exit.now.unsettled.items here.exit.unsettled.items
-    first.broken
+    first.exit_env
     (Some first.last) (option_map (env_of S.tree) here.exit.env)) v.goes_on.context
     (λ locals base h. (v.kept locals base h).taken_in)
 
@@ -939,7 +939,7 @@ check_branches-returns-clause-walked g t c =
     let left = no_branch_left c.args.branches.now here.branch-index (omega arith) in
     record {
       is = sym (ap (walk_branches (body_context_in S here.walk)
-          (forked S here.walk here.fork.last here.fork.ways.met here.exit.env)) left) ∙ v.is;
+          (branching S here.walk here.if_state.last here.if_state.ways.met here.exit.env)) left) ∙ v.is;
       stands = v.stands;
       met = v.ways;
     }
@@ -953,12 +953,12 @@ check_branch-check_suite-requires g t c κs within =
     let new = c.type_condition.new.walk in
     let a = c.in_ok-where_true.ensures in
     let ways = c.in_ok-where_true.field-0 in
-    let last = c.args.fork.last in
+    let last = c.args.if_state.last in
     let context = body_context_in S old in
     let resolve = context.context.resolve in
     let bases = context.context.bases in
     let table = env_of S.tree old.declared.now in
-    let broken = option_map (env_of S.tree) c.args.exit.now.env in
+    let exit_env = option_map (env_of S.tree) c.args.exit.now.env in
     let condition = expr_of (out-Branch c.args.branch.now).condition in
     let body = stmts_of_list (out-Branch c.args.branch.now).body.items in
     let touched = c.in_ok-touched.touched.items in
@@ -981,7 +981,7 @@ check_branch-check_suite-requires g t c κs within =
     let breaks = noted_settles bases (env_of S.tree) c.args.exit.now.env c.args.exit.now.unsettled.items touched
     noted_now
     (env_of S.tree last) (Some (narrowed_at context table true condition (env_of S.tree last))) noted
-    (way_more bases c.args.exit.now.unsettled.items touched broken (Some (env_of S.tree last)) c.requires.breaks)
+    (way_more bases c.args.exit.now.unsettled.items touched exit_env (Some (env_of S.tree last)) c.requires.breaks)
     start in (
       first_of (search (rules, the_lemmas), grind (the_lemmas, arith)),
       (
@@ -996,16 +996,16 @@ check_branch-check_suite-requires g t c κs within =
               subst (λ (t : _). HasAllLocals (record {
                 table = t;
                 env = Some (env_of S.tree ways.where_true);
-                broken = broken;
+                exit_env = exit_env;
                 found = notes_of new.found.now;
               })) (sym (ap (env_of S.tree) a.finds.declared)) (record {
                 env_long = ap (λ (e : Env). length e) a.where_true.is
                     ∙ narrowed_long context table true condition (env_of S.tree last) agree.last_long;
-                broken_long = agree.broken_long;
+                exit_env_long = agree.exit_env_long;
               }),
               in_body_context S old new (λ (f : RustBodyContext _). WayTakesIn (class_parents f.globals.now)
-                  noted_now broken (Some (env_of S.tree ways.where_true))) c.type_condition.ensures.goes_on
-                  (subst (λ (e : Env). WayTakesIn bases noted_now broken (Some e)) (sym a.where_true.is) breaks),
+                  noted_now exit_env (Some (env_of S.tree ways.where_true))) c.type_condition.ensures.goes_on
+                  (subst (λ (e : Env). WayTakesIn bases noted_now exit_env (Some e)) (sym a.where_true.is) breaks),
             ),
           ),
         ),
@@ -1014,7 +1014,7 @@ check_branch-check_suite-requires g t c κs within =
 
 pub check_branch-join_exit-requires-clause-ways : goal.check_branch-join_exit-requires-clause-ways
 check_branch-join_exit-requires-clause-ways g t c =
-    way_kept g.S.TypeStore c.args.walk.now c.check_suite.new.walk c.args.fork.ways.met
+    way_kept g.S.TypeStore c.args.walk.now c.check_suite.new.walk c.args.if_state.ways.met
     (goes_further c.type_condition.ensures.goes_on c.check_suite.ensures.goes_on) c.requires.ways
 
 pub check_branch-join_exit-requires-clause-taken_in : goal.check_branch-join_exit-requires-clause-taken_in
@@ -1029,22 +1029,22 @@ check_branch-join_exit-requires-clause-taken_in g t c =
     let context = body_context_in S old in
     let g1 = c.type_condition.ensures.goes_on in
     let g2 = goes_further g1 c.check_suite.ensures.goes_on in
-    let ways = c.args.fork.ways in
+    let ways = c.args.if_state.ways in
     let touched = c.in_ok-touched.touched.items in
     let condition = expr_of (out-Branch c.args.branch.now).condition in
     let body = stmts_of_list (out-Branch c.args.branch.now).body.items in
-    let fork = forked S old c.args.fork.last ways.met c.args.exit.now.env in
+    let if_state = branching S old c.args.if_state.last ways.met c.args.exit.now.env in
     let out = reached S later c.in_ok-out.out c.check_suite.new.exit.env in
     let found = notes_of mid.found.now in
     let start : reached S mid (Some where_true) c.args.exit.now.env ≡ record {
-      table = fork.table;
-      env = Some (narrowed_at context fork.table true condition fork.last);
-      broken = fork.broken;
+      table = if_state.table;
+      env = Some (narrowed_at context if_state.table true condition if_state.last);
+      exit_env = if_state.exit_env;
       found = found;
     } = λ i. record {
       table = env_of S.tree (a.finds.declared i);
       env = Some (a.where_true.is i);
-      broken = fork.broken;
+      exit_env = if_state.exit_env;
       found = found;
     } in
     let walked = walks_on S old mid later (Some where_true) c.args.exit.now.env c.in_ok-out.out
@@ -1057,12 +1057,12 @@ check_branch-join_exit-requires-clause-taken_in g t c =
     (stmts_of_list ss)) x) c.deref.ensures.value) in
     let among = subst (λ (f : RustBodyContext _). AreAmong touched (touched_by_while (meanings f.names.now) condition
     body)) g1.context last in
-    let branched = branch_out context touched fork.table fork.last fork.broken found condition body
+    let branched = branch_out context touched if_state.table if_state.last if_state.exit_env found condition body
     (reached S mid (Some where_true) c.args.exit.now.env) out c.requires.stands.current.well_formed
-    c.requires.settled.last_long c.requires.settled.broken_long among start walked in
+    c.requires.settled.last_long c.requires.settled.exit_env_long among start walked in
     in_body_context S old later (λ (f : RustBodyContext _). WayTakesIn (class_parents f.globals.now)
-    (ways.unsettled.items ++ touched) fork.ways out.env) g2
-    (suite_taken_in context.context.bases ways.unsettled.items touched fork.ways out.env fork.last
+    (ways.unsettled.items ++ touched) if_state.ways out.env) g2
+    (suite_taken_in context.context.bases ways.unsettled.items touched if_state.ways out.env if_state.last
     c.requires.settled.taken_in branched.agrees)
 
 pub check_branch-returns-clause-breaks : goal.check_branch-returns-clause-breaks
@@ -1082,19 +1082,19 @@ check_branch-returns-clause-breaks g t c = λ locals base h.
     let noted_now = c.note_locals.new.unsettled.items in
     let left = c.check_suite.new.exit.unsettled.items in
     let later = c.note_locals-2.new.unsettled.items in
-    let fork = forked S old c.args.fork.last c.args.fork.ways.met c.args.exit.now.env in
-    let broken = option_map (env_of S.tree) c.check_suite.new.exit.env in
+    let if_state = branching S old c.args.if_state.last c.args.if_state.ways.met c.args.exit.now.env in
+    let exit_env = option_map (env_of S.tree) c.check_suite.new.exit.env in
     let parts = branch_parts context locals condition body
     (subst (λ bs. AreAmong locals (touched_by_branches resolve bs)) (branch_tree c.args.branch.now no_branches) h.among)
     in
     let agree = subst (λ (e : Env). WaysAgree locals base (Some e)) (sym a.where_true.is)
-    (narrowed_agrees context locals fork.table fork.last true condition base c.requires.stands.current.well_formed
+    (narrowed_agrees context locals if_state.table if_state.last true condition base c.requires.stands.current.well_formed
     c.requires.settled.last_long parts.0 h.agree) in
-    let suite = subst (λ (x : RustBodyContext _). BreaksStaySettled (class_parents x.globals.now)
-    (touched_by (meanings x.names.now) body) noted_now left fork.broken (Some (env_of S.tree where_true)) broken)
-    g1.context (subst (λ ss. BreaksStaySettled (class_parents c.type_condition.new.walk.context.globals.now)
-    (touched_by (meanings c.type_condition.new.walk.context.names.now) (stmts_of_list ss)) noted_now left fork.broken
-    (Some (env_of S.tree where_true)) broken) c.deref-3.ensures.value c.in_ok-out.ensures.breaks) in
+    let suite = subst (λ (x : RustBodyContext _). BreaksStaySubsumed (class_parents x.globals.now)
+    (touched_by (meanings x.names.now) body) noted_now left if_state.exit_env (Some (env_of S.tree where_true)) exit_env)
+    g1.context (subst (λ ss. BreaksStaySubsumed (class_parents c.type_condition.new.walk.context.globals.now)
+    (touched_by (meanings c.type_condition.new.walk.context.names.now) (stmts_of_list ss)) noted_now left if_state.exit_env
+    (Some (env_of S.tree where_true)) exit_env) c.deref-3.ensures.value c.in_ok-out.ensures.breaks) in
     let noted : AreNoted c.args.exit.now.env unsettled touched noted_now =
     subst (λ (ts : List ℕ). AreNoted c.args.exit.now.env unsettled ts noted_now) c.deref-2.ensures.value
     c.in_ok-note_locals.ensures in
@@ -1109,8 +1109,8 @@ check_branch-returns-clause-breaks g t c = λ locals base h.
           h.taken_in;
     }))
 
-pub check_branch-returns-clause-breaks_settle : goal.check_branch-returns-clause-breaks_settle
-check_branch-returns-clause-breaks_settle g t c =
+pub check_branch-returns-clause-breaks_subsumed : goal.check_branch-returns-clause-breaks_subsumed
+check_branch-returns-clause-breaks_subsumed g t c =
     let S = g.S.TypeStore in
     let old = c.args.walk.now in
     let mid = c.type_condition.new.walk in
@@ -1128,26 +1128,26 @@ check_branch-returns-clause-breaks_settle g t c =
     let noted_now = c.note_locals.new.unsettled.items in
     let left = c.check_suite.new.exit.unsettled.items in
     let later = c.note_locals-2.new.unsettled.items in
-    let fork = forked S old c.args.fork.last c.args.fork.ways.met c.args.exit.now.env in
-    let broken = option_map (env_of S.tree) c.check_suite.new.exit.env in
+    let if_state = branching S old c.args.if_state.last c.args.if_state.ways.met c.args.exit.now.env in
+    let exit_env = option_map (env_of S.tree) c.check_suite.new.exit.env in
     let here = among_same touched (touched_by_while (meanings mid.context.names.now) condition body)
     (λ x. c.in_ok-touched.ensures x ∙ ap (λ ss. is_among (touched_by_while (meanings mid.context.names.now) condition
     (stmts_of_list ss)) x) c.deref.ensures.value) in
     let parts = while_parts context touched condition body
     (subst (λ (f : RustBodyContext _). AreAmong touched (touched_by_while (meanings f.names.now) condition body))
     g1.context here) in
-    let narrowed = λ (holds : Test). narrowed_agrees context touched fork.table fork.last holds condition
-    (Some fork.last) c.requires.stands.current.well_formed c.requires.settled.last_long parts.0
-    (self_agrees touched (Some fork.last)) in
-    let where_true = subst (λ (e : Env). WaysAgree touched (Some fork.last) (Some e)) (sym a.where_true.is)
+    let narrowed = λ (holds : Test). narrowed_agrees context touched if_state.table if_state.last holds condition
+    (Some if_state.last) c.requires.stands.current.well_formed c.requires.settled.last_long parts.0
+    (self_agrees touched (Some if_state.last)) in
+    let where_true = subst (λ (e : Env). WaysAgree touched (Some if_state.last) (Some e)) (sym a.where_true.is)
     (narrowed true) in
-    let where_false = subst (λ (e : Env). WaysAgree touched (Some fork.last) (Some e)) (sym a.where_false.is)
+    let where_false = subst (λ (e : Env). WaysAgree touched (Some if_state.last) (Some e)) (sym a.where_false.is)
     (narrowed false) in
-    let suite = subst (λ (x : RustBodyContext _). BreaksStaySettled (class_parents x.globals.now)
-    (touched_by (meanings x.names.now) body) noted_now left fork.broken (Some (env_of S.tree ways.where_true)) broken)
-    g1.context (subst (λ ss. BreaksStaySettled (class_parents mid.context.globals.now)
-    (touched_by (meanings mid.context.names.now) (stmts_of_list ss)) noted_now left fork.broken
-    (Some (env_of S.tree ways.where_true)) broken) c.deref-3.ensures.value c.in_ok-out.ensures.breaks) in
+    let suite = subst (λ (x : RustBodyContext _). BreaksStaySubsumed (class_parents x.globals.now)
+    (touched_by (meanings x.names.now) body) noted_now left if_state.exit_env (Some (env_of S.tree ways.where_true)) exit_env)
+    g1.context (subst (λ ss. BreaksStaySubsumed (class_parents mid.context.globals.now)
+    (touched_by (meanings mid.context.names.now) (stmts_of_list ss)) noted_now left if_state.exit_env
+    (Some (env_of S.tree ways.where_true)) exit_env) c.deref-3.ensures.value c.in_ok-out.ensures.breaks) in
     let noted : AreNoted c.args.exit.now.env unsettled touched noted_now =
     subst (λ (ts : List ℕ). AreNoted c.args.exit.now.env unsettled ts noted_now) c.deref-2.ensures.value
     c.in_ok-note_locals.ensures in
@@ -1155,11 +1155,11 @@ check_branch-returns-clause-breaks_settle g t c =
     subst (λ (ts : List ℕ). AreNoted c.check_suite.new.exit.env left ts later) c.deref-4.ensures.value
     c.in_ok-note_locals-2.ensures in
     let before = noted_more bases (env_of S.tree) c.args.exit.now.env unsettled touched noted_now touched
-    (Some fork.last) noted (way_more bases unsettled touched fork.broken (Some fork.last) c.requires.breaks) in
-    let behind = suite touched (Some fork.last) (record { among = parts.1; agree = where_true; taken_in = before }) in
-    in_body_context S old new (λ (f : RustBodyContext _). WayTakesIn (class_parents f.globals.now) later broken
+    (Some if_state.last) noted (way_more bases unsettled touched if_state.exit_env (Some if_state.last) c.requires.breaks) in
+    let behind = suite touched (Some if_state.last) (record { among = parts.1; agree = where_true; taken_in = before }) in
+    in_body_context S old new (λ (f : RustBodyContext _). WayTakesIn (class_parents f.globals.now) later exit_env
     (Some (env_of S.tree ways.where_false))) g3
-    (noted_settles bases (env_of S.tree) c.check_suite.new.exit.env left touched later fork.last
+    (noted_settles bases (env_of S.tree) c.check_suite.new.exit.env left touched later if_state.last
     (Some (env_of S.tree ways.where_false)) again behind where_false)
 
 pub check_branch-returns-clause-walked : goal.check_branch-returns-clause-walked
@@ -1174,53 +1174,53 @@ check_branch-returns-clause-walked g t c =
     let s = c.in_ok-out.ensures.walked in
     let j = c.in_ok-ways.ensures in
     let joined = c.in_ok-ways.ways.met in
-    let broken = c.check_suite.new.exit.env in
+    let exit_env = c.check_suite.new.exit.env in
     let context = body_context_in S old in
     let condition = expr_of (out-Branch c.args.branch.now).condition in
     let body = stmts_of_list (out-Branch c.args.branch.now).body.items in
-    let fork = forked S old c.args.fork.last c.args.fork.ways.met c.args.exit.now.env in
-    let out = reached S later c.in_ok-out.out broken in
+    let if_state = branching S old c.args.if_state.last c.args.if_state.ways.met c.args.exit.now.env in
+    let out = reached S later c.in_ok-out.out exit_env in
     let last = env_of S.tree ways.where_false in
     let met = option_map (env_of S.tree) joined in
     let g1 = c.type_condition.ensures.goes_on in
     let g2 = goes_further g1 c.check_suite.ensures.goes_on in
-    let walked = walks_on S old mid later (Some ways.where_true) c.args.exit.now.env c.in_ok-out.out broken
+    let walked = walks_on S old mid later (Some ways.where_true) c.args.exit.now.env c.in_ok-out.out exit_env
     (λ f w. walk_suite f w (stmts_of_list c.deref-3.result.now)) g1 s
     ∙ ap (λ ss. walk_suite context (reached S mid (Some ways.where_true) c.args.exit.now.env) (stmts_of_list ss))
     c.deref-3.ensures.value in
-    let ways_met : met ≡ with_way context.context.bases out.table fork.ways out.env =
-    j.joined.is ∙ (λ i. with_way (g2.context i).globals.now.outline.now.parents.now out.table fork.ways out.env) in
+    let ways_met : met ≡ with_way context.context.bases out.table if_state.ways out.env =
+    j.joined.is ∙ (λ i. with_way (g2.context i).globals.now.outline.now.parents.now out.table if_state.ways out.env) in
     let start : reached S mid (Some ways.where_true) c.args.exit.now.env ≡ record {
-      table = fork.table;
-      env = Some (narrowed_at context fork.table true condition fork.last);
-      broken = fork.broken;
-      found = fork.found ++ finds_in (standing_here context fork.table fork.last) None condition;
+      table = if_state.table;
+      env = Some (narrowed_at context if_state.table true condition if_state.last);
+      exit_env = if_state.exit_env;
+      found = if_state.found ++ finds_in (standing_here context if_state.table if_state.last) None condition;
     } = λ i. record {
       table = env_of S.tree (a.finds.declared i);
       env = Some (a.where_true.is i);
-      broken = fork.broken;
+      exit_env = if_state.exit_env;
       found = a.finds.pushed i;
     } in
-    let quiet : forked S new ways.where_false joined broken ≡ record {
+    let quiet : branching S new ways.where_false joined exit_env ≡ record {
       table = out.table;
       last = last;
       ways = met;
-      broken = out.broken;
+      exit_env = out.exit_env;
       found = out.found;
     } = λ i. record {
       table = env_of S.tree (j.quiet.declared i);
       last = last;
       ways = met;
-      broken = out.broken;
+      exit_env = out.exit_env;
       found = j.quiet.found i;
     } in
-    let stood = quiet_stands S later new c.join_exit.ensures.goes_on j.quiet None broken
+    let stood = quiet_stands S later new c.join_exit.ensures.goes_on j.quiet None exit_env
     (record { context = s.stands.context; declared = s.stands.declared; current = tt; out = s.stands.out }) in
     record {
       is = quiet
-          ∙ branch_walked context fork.table fork.last fork.ways fork.broken fork.found condition body
+          ∙ branch_walked context if_state.table if_state.last if_state.ways if_state.exit_env if_state.found condition body
           (reached S mid (Some ways.where_true) c.args.exit.now.env) out last met start walked a.where_false.is ways_met
-          ∙ sym (ap (walk_branches context fork) (branch_tree c.args.branch.now no_branches));
+          ∙ sym (ap (walk_branches context if_state) (branch_tree c.args.branch.now no_branches));
       stands = record {
         context = stood.context;
         declared = stood.declared;
@@ -1243,22 +1243,22 @@ check_branch-returns-clause-settled g t c =
     let context = body_context_in S old in
     let g1 = c.type_condition.ensures.goes_on in
     let g2 = goes_further g1 c.check_suite.ensures.goes_on in
-    let ways = c.args.fork.ways in
+    let ways = c.args.if_state.ways in
     let touched = c.in_ok-touched.touched.items in
     let condition = expr_of (out-Branch c.args.branch.now).condition in
     let body = stmts_of_list (out-Branch c.args.branch.now).body.items in
-    let fork = forked S old c.args.fork.last ways.met c.args.exit.now.env in
+    let if_state = branching S old c.args.if_state.last ways.met c.args.exit.now.env in
     let out = reached S later c.in_ok-out.out c.check_suite.new.exit.env in
     let found = notes_of mid.found.now in
     let start : reached S mid (Some where_true) c.args.exit.now.env ≡ record {
-      table = fork.table;
-      env = Some (narrowed_at context fork.table true condition fork.last);
-      broken = fork.broken;
+      table = if_state.table;
+      env = Some (narrowed_at context if_state.table true condition if_state.last);
+      exit_env = if_state.exit_env;
       found = found;
     } = λ i. record {
       table = env_of S.tree (a.finds.declared i);
       env = Some (a.where_true.is i);
-      broken = fork.broken;
+      exit_env = if_state.exit_env;
       found = found;
     } in
     let walked = walks_on S old mid later (Some where_true) c.args.exit.now.env c.in_ok-out.out
@@ -1271,26 +1271,26 @@ check_branch-returns-clause-settled g t c =
     (stmts_of_list ss)) x) c.deref.ensures.value) in
     let among = subst (λ (f : RustBodyContext _). AreAmong touched (touched_by_while (meanings f.names.now) condition
     body)) g1.context last in
-    let branched = branch_out context touched fork.table fork.last fork.broken found condition body
+    let branched = branch_out context touched if_state.table if_state.last if_state.exit_env found condition body
     (reached S mid (Some where_true) c.args.exit.now.env) out c.requires.stands.current.well_formed
-    c.requires.settled.last_long c.requires.settled.broken_long among start walked in
+    c.requires.settled.last_long c.requires.settled.exit_env_long among start walked in
     let new = c.join_exit.new.walk in
     let next = env_of S.tree c.in_ok-where_true.field-0.where_false in
     let left = c.in_ok-ways.ways.unsettled.items in
     let met = option_map (env_of S.tree) c.in_ok-ways.ways.met in
     let q = c.in_ok-ways.ensures.quiet in
-    let next_is : next ≡ narrowed_at context fork.table false condition fork.last = a.where_false.is in
+    let next_is : next ≡ narrowed_at context if_state.table false condition if_state.last = a.where_false.is in
     let table_is : env_of S.tree new.declared.now ≡ out.table = ap (env_of S.tree) q.declared in
     let before = in_body_context S old later (λ (f : RustBodyContext _).
-    TakesInIfAny (class_parents f.globals.now) ways.unsettled.items fork.ways fork.last) g2
+    TakesInIfAny (class_parents f.globals.now) ways.unsettled.items if_state.ways if_state.last) g2
     c.requires.settled.taken_in in
-    let settled = c.in_ok-ways.ensures.settled fork.last branched.agrees before in
+    let settled = c.in_ok-ways.ensures.settled if_state.last branched.agrees before in
     let onwards = in_body_context S later new (λ (f : RustBodyContext _).
-    TakesInIfAny (class_parents f.globals.now) left met fork.last) c.join_exit.ensures.goes_on settled in
-    let agree = subst (λ (e : Env). AgreeOutside touched e fork.last) (sym next_is) branched.next_agrees in
+    TakesInIfAny (class_parents f.globals.now) left met if_state.last) c.join_exit.ensures.goes_on settled in
+    let agree = subst (λ (e : Env). AgreeOutside touched e if_state.last) (sym next_is) branched.next_agrees in
     record {
       last_long = ap length next_is ∙ branched.last_long ∙ ap length (sym table_is);
-      broken_long = subst (λ (table : _). IsAsLongIfAny table out.broken) (sym table_is) branched.broken_long;
-      taken_in = next_taken_in (class_parents new.context.globals.now) left touched met fork.last next
+      exit_env_long = subst (λ (table : _). IsAsLongIfAny table out.exit_env) (sym table_is) branched.exit_env_long;
+      taken_in = next_taken_in (class_parents new.context.globals.now) left touched met if_state.last next
           (λ x h. c.in_ok-ways.ensures.touched x h) agree onwards;
     }

@@ -34,7 +34,7 @@ loop-number-preserved g c =
           (v.list before h) (slice_get_read fields (length fields) number x refl less c.index-fields-number.is) refl
           pushed.room pushed.count pushed.needed
           (λ names are many. subst (λ (name : List _). AreNamed t longer (names ++ name ∷ [])) c.as_str.ensures.value
-          (pushed.names names are many)) pushed.seats);
+          (pushed.names names are many)) pushed.list_places);
     }
 
 pub returns-clause-list : goal.returns-clause-list

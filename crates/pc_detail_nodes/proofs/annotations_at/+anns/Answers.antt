@@ -16,9 +16,9 @@ add_parts-returns-in-Apply t c =
     let pushed : map ann_lent c.push.new.self.items ≡ map ann_lent old ++ a ∷ [] =
     ap (map ann_lent) c.in_ok-push.ensures.items ∙ map-append ann_lent old _ in
     let same : anns_in a ≡ a ∷ anns_in_all (anns_of_list c.in-Apply.parts.items) =
-    ap anns_in (applied_is c.args.annotation.now c.in-Apply.field-0 c.in-Apply.field-1 c.in-Apply.parts c.in-Apply.is)
+    ap anns_in (applied_is c.args.annotation.now c.in-Apply.place c.in-Apply.head c.in-Apply.parts c.in-Apply.is)
     ∙ ap (λ (x : Ann). x ∷ anns_in_all (anns_of_list c.in-Apply.parts.items))
-    (sym (applied_is c.args.annotation.now c.in-Apply.field-0 c.in-Apply.field-1 c.in-Apply.parts c.in-Apply.is)) in
+    (sym (applied_is c.args.annotation.now c.in-Apply.place c.in-Apply.head c.in-Apply.parts c.in-Apply.is)) in
     subst (λ (l : List Ann). OnOk c.add_each.result (map ann_lent c.add_each.new.anns.items ≡ l))
     (then_rest (map ann_lent old) (map ann_lent c.push.new.self.items) (a ∷ [])
     (anns_in_all (anns_of_list c.in-Apply.parts.items)) (anns_in a) same pushed)

@@ -4,7 +4,7 @@ use Rattle.std.specs.Prelude.{flat_map}
 use Rattle.pc_tree.specs.Tree.{Constant, Expr}
 use Rattle.pc_scope.specs.Expressions.{parts_in}
 use Rattle.pc_scope.specs.declared.resolution.Owner.TheVariants as owners
-use Rattle.pc_detail_facts.specs.declared.facts.OwnedExpr.{OwnedExpr as RustOwned}
+use Rattle.pc_detail_facts.specs.declared.definitions.OwnedExpr.{OwnedExpr as RustOwned}
 use Rattle.pc_detail_facts.specs.Held.{constant_lent, owned_of}
 use Rattle.pc_detail_rules.specs.Nodes.{owned}
 use Rattle.pc_detail_nodes.specs.NodesHeld.{expr_lent}

@@ -6,7 +6,7 @@ use Rattle.pc_tree.specs.Tree.{expr_of}
 use Rattle.pc_detail_rules.specs.Explains.{calls_at}
 use Rattle.pc_detail_facts.specs.Held.{owned_of}
 use Rattle.pc_detail_rules.specs.Nodes.{OwnedExpr}
-use Rattle.pc_detail_facts.specs.declared.facts.OwnedExpr.{OwnedExpr as RustOwned}
+use Rattle.pc_detail_facts.specs.declared.definitions.OwnedExpr.{OwnedExpr as RustOwned}
 use Rattle.pc_detail_nodes.proofs.PlacesMarked.{any_more}
 use Rattle.pc_detail_nodes.proofs.nodes.callees_among.Goals as goal
 

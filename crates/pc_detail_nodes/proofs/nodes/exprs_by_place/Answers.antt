@@ -7,7 +7,7 @@ use Rattle.pc_notes.specs.Notes.{is_same_place}
 use Rattle.pc_detail_nodes.specs.ByPlaces.{nodes_at}
 use Rattle.pc_detail_facts.specs.Held.{owned_of}
 use Rattle.pc_detail_rules.specs.Nodes.{OwnedExpr}
-use Rattle.pc_detail_facts.specs.declared.facts.OwnedExpr.{OwnedExpr as RustOwned}
+use Rattle.pc_detail_facts.specs.declared.definitions.OwnedExpr.{OwnedExpr as RustOwned}
 use Rattle.pc_detail_nodes.proofs.Placed.{placed_more}
 use Rattle.pc_detail_nodes.proofs.nodes.exprs_by_place.Goals as goal
 

@@ -2,7 +2,7 @@ use Rattle.std.proofs.Common.{◌∙◌, List, Option, ap, sym, map, arith}
 use Rattle.std.proofs.lemmas.List.{take_all}
 use Rattle.std.specs.Option.{option_or}
 use Rattle.pc_scope.specs.Bindings.{Body}
-use Rattle.pc_detail_facts.specs.declared.facts.Body.{Body as RustBody}
+use Rattle.pc_detail_facts.specs.declared.definitions.Body.{Body as RustBody}
 use Rattle.pc_detail_facts.specs.Held.{body_of}
 use Rattle.pc_detail_nodes.specs.NodesHeld.{body_among, body_at}
 use Rattle.pc_detail_nodes.proofs.PlacesMarked.{among_more}

@@ -51,7 +51,7 @@ add_inside-returns-in_ok-add_each-in-Call t c =
     (rw c.deref-in-Call-2.ensures.value at c.in_ok-add_each-in-Call.ensures) in
     rw c.in-Call.is (subst (λ (x : Expr). OnOk c.add_values.result
     (map expr_lent c.add_values.new.parts.items ≡ map expr_lent c.args.parts.now.items ++ parts_inside x))
-    (sym (call_tree c.in-Call.field-0 c.in-Call.callee c.in-Call.arguments c.in-Call.keywords))
+    (sym (call_tree c.in-Call.place c.in-Call.callee c.in-Call.arguments c.in-Call.keywords))
     (subst (λ (es : List Expr). OnOk c.add_values.result (map expr_lent c.add_values.new.parts.items ≡ es)) e
     (rw c.deref-in-Call-3.ensures.value at c.add_values.ensures)))
 

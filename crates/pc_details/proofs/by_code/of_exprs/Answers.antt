@@ -4,7 +4,7 @@ use Rattle.std.specs.Option.{option_map}
 use Rattle.pc_types.specs.Tree.{Tree}
 use Rattle.pc_detail_texts.specs.Details.{Detail}
 use Rattle.pc_detail_texts.specs.Mapped.{map_detail}
-use Rattle.pc_detail_facts.specs.declared.facts.OwnedExpr.{OwnedExpr as RustOwned}
+use Rattle.pc_detail_facts.specs.declared.definitions.OwnedExpr.{OwnedExpr as RustOwned}
 use Rattle.pc_details.specs.ByCode.{expr_rule}
 use Rattle.pc_detail_facts.specs.Held.{known_held, module_held, owned_of, text_held}
 use Rattle.pc_detail_rules.specs.Names.{first_of_all}

@@ -15,12 +15,13 @@ details_with-requires-clause-facts c = record {
   given = c.requires.given;
   fields = c.requires.fields;
   listed = c.requires.listed;
+  annotations = c.in_ok-annotations.ensures;
   definitions = c.requires.definitions;
   known = c.requires.known;
 }
 
 pub details_with-requires-clause-bodies : goal.details_with-requires-clause-bodies
-details_with-requires-clause-bodies c = rw c.deref.ensures.value (c.in_ok-bodies.ensures
+details_with-requires-clause-bodies c = rw c.deref-2.ensures.value (c.in_ok-bodies.ensures
     ∙ ap₂ (λ (fs : List FuncDef) (cs : List ClassDef). function_bodies 0 fs ++ class_bodies 0 cs)
     c.requires.definitions.functions c.requires.definitions.classes)
 
@@ -35,6 +36,7 @@ returns-clause-whole c = λ told h distinct.
       outline = c.args.outline;
       classes = c.args.classes;
       fields = c.args.fields;
+      annotations = record { ref_ptr = (c.annotations-2-1.given, 0); now = c.in_ok-annotations.annotations };
       definitions = c.args.definitions;
       known = c.args.known;
     } in

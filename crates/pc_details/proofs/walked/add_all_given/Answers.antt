@@ -1,7 +1,7 @@
 use Rattle.std.proofs.Common.{◌+◌, [], List, map, refl, subst, take, arith}
 use Rattle.std.proofs.lemmas.List.{take_all}
 use Rattle.std.specs.Prelude.{flat_map}
-use Rattle.pc_detail_facts.specs.declared.facts.OwnedExpr.{OwnedExpr as RustOwned}
+use Rattle.pc_detail_facts.specs.declared.definitions.OwnedExpr.{OwnedExpr as RustOwned}
 use Rattle.pc_detail_facts.specs.Held.{owned_of}
 use Rattle.pc_detail_rules.specs.Names.{arguments_together}
 use Rattle.pc_name_details.specs.Naming.{given_rule}

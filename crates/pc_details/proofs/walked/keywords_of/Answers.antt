@@ -13,4 +13,4 @@ pub returns-in-Call : goal.returns-in-Call
 returns-in-Call c =
     ap (λ (ks : List RustKeyword). arguments_named (keyword_names (keywords_of_list ks)) ∷ [])
     c.deref.ensures.value ∙ sym (ap (λ (x : RustExpr). arguments_of (expr_of x)) c.in-Call.is
-    ∙ ap arguments_of (call_tree c.in-Call.field-0 c.in-Call.field-1 c.in-Call.field-2 c.in-Call.keywords))
+    ∙ ap arguments_of (call_tree c.in-Call.place c.in-Call.callee c.in-Call.arguments c.in-Call.keywords))

@@ -13,7 +13,7 @@ pub returns-clause-ways : goal.returns-clause-ways
 returns-clause-ways g c =
     let has = g.S.TypeStore.has in
     let tree = g.S.TypeStore.tree in
-    let s = c.args.setting.now in
+    let s = c.args.context.now in
     let e = expr_of c.args.e.now in
     let copy = c.in_ok-copy in
     let well = subst (IsWellFormedEnv (class_parents s.globals.now)) (sym copy.ensures.is)

@@ -28,13 +28,13 @@ pub returns-clause-found : goal.returns-clause-found
 returns-clause-found g c =
     let tree = g.S.TypeStore.tree in
     if_ok c.find_codes.result
-    (λ i. range_found (standing_of tree c.args.setting.now c.args.env.now) c.args.range.now.place
+    (λ i. range_found (standing_of tree c.args.context.now c.args.env.now) c.args.range.now.place
     (expr_of c.args.range.now.callee.now) (exprs_of_list c.args.range.now.arguments.now)
     (keywords_of_list c.args.range.now.by_name.now)
     (given_with c.in_ok-given.given) c.in_ok-given.ensures (map (offer_called tree) c.in_ok-offers.offers.items)
     c.in_ok-offers.ensures.offers.is
-    (notes_of c.args.checker.now.found.now) (notes_of c.type_arguments.new.checker.found.now)
-    (notes_of c.type_keywords.new.checker.found.now) (notes_of c.find_codes.new.found) c.in_ok-codes.codes.items
+    (notes_of c.args.state.now.found.now) (notes_of c.type_arguments.new.state.found.now)
+    (notes_of c.type_keywords.new.state.found.now) (notes_of c.find_codes.new.found) c.in_ok-codes.codes.items
     c.is_instance_test-is_test.result
     (rw c.deref-3.ensures.value at (c.in_ok-codes.ensures tree)) c.is_instance_test-is_test.ensures
     (rw c.deref.ensures.value at c.in_ok-type_arguments.ensures.found)
@@ -43,11 +43,11 @@ returns-clause-found g c =
     (rw c.deref-4.ensures.value at c.find_codes.ensures)
 
 pub type_arguments-requires-clause-given : goal.type_arguments-requires-clause-given
-type_arguments-requires-clause-given g c = stands_kept (g.S.TypeStore.has c.args.checker.now.store.now)
-    (g.S.TypeStore.has c.range_offers.new.store) c.range_offers.ensures.kept g.S.TypeStore.tree c.args.setting.now
+type_arguments-requires-clause-given g c = stands_kept (g.S.TypeStore.has c.args.state.now.store.now)
+    (g.S.TypeStore.has c.range_offers.new.store) c.range_offers.ensures.kept g.S.TypeStore.tree c.args.context.now
     c.args.env.now c.requires
 
 pub type_keywords-requires-clause-given : goal.type_keywords-requires-clause-given
-type_keywords-requires-clause-given g c = stands_kept (g.S.TypeStore.has c.args.checker.now.store.now)
-    (g.S.TypeStore.has c.type_arguments.new.checker.store.now) (λ ty h. c.type_arguments.ensures.goes_on.kept ty
-    (c.range_offers.ensures.kept ty h)) g.S.TypeStore.tree c.args.setting.now c.args.env.now c.requires
+type_keywords-requires-clause-given g c = stands_kept (g.S.TypeStore.has c.args.state.now.store.now)
+    (g.S.TypeStore.has c.type_arguments.new.state.store.now) (λ ty h. c.type_arguments.ensures.goes_on.kept ty
+    (c.range_offers.ensures.kept ty h)) g.S.TypeStore.tree c.args.context.now c.args.env.now c.requires

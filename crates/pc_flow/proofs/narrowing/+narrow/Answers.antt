@@ -52,7 +52,7 @@ returns-in_ok-ways-in-And-clause-value g t c =
     c.ordered.ensures c.requires.declared_well_formed (expr_of c.in-And.left.value) (expr_of c.in-And.right.value)
     (env_of tree c.args.env) c.requires.env_well_formed _ first.where_true first.where_false
     c.in_ok-second-in-And.second v.where_true.is v.where_false.is (rw c.deref-in-And-4.ensures at s)
-    c.in-And.field-0 _ w.ways w.ensures.kept w.ensures.asked w.ensures.met)
+    c.in-And.place _ w.ways w.ensures.kept w.ensures.asked w.ensures.met)
 
 pub narrow-requires-in-Or-2 : goal.narrow-requires-in-Or-2
 narrow-requires-in-Or-2 g t c κs within =
@@ -97,7 +97,7 @@ returns-in_ok-ways-in-Or-clause-value g t c =
     (or_gives g.S.TypeStore.has tree d.parents.now (declared_of tree d.declared.now) (meanings d.names.now)
     c.ordered.ensures c.requires.declared_well_formed (expr_of c.in-Or.left.value) (expr_of c.in-Or.right.value)
     (env_of tree c.args.env) c.requires.env_well_formed _ first.where_false first.where_true
-    c.in_ok-second-in-Or.second v.where_false.is v.where_true.is (rw c.deref-in-Or-4.ensures at s) c.in-Or.field-0 _
+    c.in_ok-second-in-Or.second v.where_false.is v.where_true.is (rw c.deref-in-Or-4.ensures at s) c.in-Or.place _
     w.ways w.ensures.kept w.ensures.asked w.ensures.met)
 
 pub returns-in_ok-ways-in_default-clause-value : goal.returns-in_ok-ways-in_default-clause-value

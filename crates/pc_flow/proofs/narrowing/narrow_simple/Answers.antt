@@ -17,7 +17,7 @@ returns-in-Call-clause-value g c =
     rw c.in-Call.is (subst (λ (x : Expr). IfOk c.narrow_instance.result
     (λ n. GivesBoth has tree c.narrow_instance.new.store n (λ holds. narrow d.parents.now ds (meanings d.names.now)
     holds x (env_of tree c.args.env))))
-    (sym (call_tree c.in-Call.field-0 c.in-Call.callee c.in-Call.arguments c.in-Call.by_name))
+    (sym (call_tree c.in-Call.place c.in-Call.callee c.in-Call.arguments c.in-Call.by_name))
     (rw (
       c.is_instance_test-is_test.ensures,
       c.deref-in-Call.ensures,

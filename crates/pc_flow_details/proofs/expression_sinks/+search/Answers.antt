@@ -270,7 +270,7 @@ search_parts-returns-in_ok-search_each-in-Call t c =
     (taken_in f o (inner_parts false (expr_of c.args.expr.now)))
     (ap (λ (x : RustExpr). taken_in f o (inner_parts false (expr_of x))) c.in-Call.is
     ∙ ap (λ (e : Expr). taken_in f o (inner_parts false e))
-    (call_tree c.in-Call.field-0 c.in-Call.callee c.in-Call.arguments c.in-Call.keywords)
+    (call_tree c.in-Call.place c.in-Call.callee c.in-Call.arguments c.in-Call.keywords)
     ∙ both_taken f o callee (arguments ++ values)
     ∙ ap (λ (l : List SinkAt). taken_in f o callee ++ l) (both_taken f o arguments values)
     ∙ sym (append_assoc (taken_in f o callee) (taken_in f o arguments) (taken_in f o values)))

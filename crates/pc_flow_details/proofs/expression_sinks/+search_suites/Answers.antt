@@ -169,7 +169,7 @@ search_statement-returns-in_ok-search-in-For t c first =
     (taken_below f o (exprs_in false (stmt_of_kind first c.args.kind.now)))
     (ap (λ (k : StmtKind). taken_below f o (exprs_in false (stmt_of_kind first k))) c.in-For.is
     ∙ ap (λ (s : Stmt). taken_below f o (exprs_in false s))
-    (for_tree first c.in-For.field-0 c.in-For.iterable c.in-For.body)
+    (for_tree first c.in-For.target c.in-For.iterable c.in-For.body)
     ∙ one_below f o iterable body)
     (rw c.deref-in-For.ensures at c.in_ok-search-in-For.ensures)
     (rw c.deref-in-For-2.ensures.value at c.search_suite-in-For.ensures)

@@ -9,7 +9,7 @@ use Rattle.pc_tree.specs.declared.tree.Stmt.{Stmt as RustStmt}
 use Rattle.pc_tree.proofs.Trees.{branch_tree}
 use Rattle.pc_detail_facts.specs.Held.{body_of, known_held, module_held}
 use Rattle.pc_flow_details.specs.Kept.{first_of_both, flows_to_sinks, flows_kept}
-use Rattle.pc_detail_rules.specs.Nodes.{function_name, stmts_in, stmts_in_branches, stmts_in_suite}
+use Rattle.pc_detail_rules.specs.Nodes.{stmts_in, stmts_in_branches, stmts_in_suite}
 use Rattle.pc_detail_rules.specs.Sinks.{SinkAt, sinks_of_stmt}
 use Rattle.pc_flow_details.proofs.Kept.{by_two, end_of, next_of, on_whole}
 use Rattle.pc_flow_details.proofs.OwnFirst.{nested}
@@ -18,7 +18,7 @@ use Rattle.pc_flow_details.proofs.sinks.+statements.Goals as goal
 pub add_suite-loop-statement-preserved : goal.add_suite-loop-statement-preserved
 add_suite-loop-statement-preserved t c =
     let f = c.args.facts.now in
-    let sinks = sinks_of_stmt (module_held f) (known_held f) (function_name (module_held f) (body_of c.args.body)) in
+    let sinks = sinks_of_stmt (module_held f) (known_held f) (body_of c.args.body) in
     let s = c.statement-item.result in
     let rest = stmts_in_suite (stmts_of_list (drop (c.loop-statement.statement-index + 1) c.args.suite.now)) in
     next_of f (λ (xs : List RustStmt). flat_map sinks (stmts_in_suite (stmts_of_list xs))) _ _
@@ -28,14 +28,14 @@ add_suite-loop-statement-preserved t c =
 pub add_suite-returns : goal.add_suite-returns
 add_suite-returns t c =
     let f = c.args.facts.now in
-    let sinks = sinks_of_stmt (module_held f) (known_held f) (function_name (module_held f) (body_of c.args.body)) in
+    let sinks = sinks_of_stmt (module_held f) (known_held f) (body_of c.args.body) in
     end_of f (λ (xs : List RustStmt). flat_map sinks (stmts_in_suite (stmts_of_list xs))) _
     c.loop-statement.statement-index _ _ refl c.loop-statement-test.false c.loop-statement.invariant
 
 pub add_branches-loop-branch-preserved : goal.add_branches-loop-branch-preserved
 add_branches-loop-branch-preserved t c =
     let f = c.args.facts.now in
-    let sinks = sinks_of_stmt (module_held f) (known_held f) (function_name (module_held f) (body_of c.args.body)) in
+    let sinks = sinks_of_stmt (module_held f) (known_held f) (body_of c.args.body) in
     let b = c.branch-item.result in
     let rest = branches_of_list (drop (c.loop-branch.branch-index + 1) c.args.branches.now) in
     let own = stmts_in_suite (stmts_of_list (out-Branch b).body.items) in
@@ -49,14 +49,14 @@ add_branches-loop-branch-preserved t c =
 pub add_branches-returns : goal.add_branches-returns
 add_branches-returns t c =
     let f = c.args.facts.now in
-    let sinks = sinks_of_stmt (module_held f) (known_held f) (function_name (module_held f) (body_of c.args.body)) in
+    let sinks = sinks_of_stmt (module_held f) (known_held f) (body_of c.args.body) in
     end_of f (λ (xs : List RustBranch). flat_map sinks (stmts_in_branches (branches_of_list xs))) _
     c.loop-branch.branch-index _ _ refl c.loop-branch-test.false c.loop-branch.invariant
 
 pub add_nested-returns : goal.add_nested-returns
 add_nested-returns t c =
     let f = c.args.facts.now in
-    let sinks = sinks_of_stmt (module_held f) (known_held f) (function_name (module_held f) (body_of c.args.body)) in
+    let sinks = sinks_of_stmt (module_held f) (known_held f) (body_of c.args.body) in
     let p = c.args.statement.now.first in
     let s = stmt_of c.args.statement.now in
     let branches = stmts_in_branches (branches_of_stmt s) in

@@ -12,7 +12,7 @@ returns c =
     let f = c.args.facts.now in
     let name = function_name (module_held f) (body_of c.args.body) in
     on_whole f _ _ _ _ (flat_map (parameter_default name) (map param_of c.args.body.function.now.params.items))
-    (flat_map (sinks_of_stmt (module_held f) (known_held f) name)
+    (flat_map (sinks_of_stmt (module_held f) (known_held f) (body_of c.args.body))
     (stmts_in_suite (stmts_of_list c.args.body.function.now.body.items)))
     (sinks_of_body (module_held f) (known_held f) (body_of c.args.body)) refl
     (rw c.deref.ensures.value at c.in_ok-add_parameters.ensures) (rw c.deref-2.ensures.value at c.add_suite.ensures)

@@ -1,6 +1,6 @@
 use Rattle.std.proofs.Common.{List, map}
 use Rattle.std.specs.Prelude.{flat_map}
-use Rattle.pc_detail_facts.specs.declared.facts.Body.{Body as RustBody}
+use Rattle.pc_detail_facts.specs.declared.definitions.Body.{Body as RustBody}
 use Rattle.pc_detail_facts.specs.Held.{body_of}
 use Rattle.pc_flow_details.specs.Kept.{taken_in_body}
 use Rattle.pc_flow_details.proofs.Kept.{LeftOf}

@@ -55,7 +55,7 @@ returns-in-Compare c =
     into_same f c.add_compared.result (flows_kept c.args.sinks.now) (flows_kept c.add_compared.new.sinks)
     (compared_sinks c.in-Compare.operator c.place.result t)
     (sinks_in m k (owned c.args.owner (expr_of c.args.expr.now)))
-    (compared_taken m k c.args.owner c.args.expr.now c.in-Compare.field-0 c.in-Compare.operator c.in-Compare.left
+    (compared_taken m k c.args.owner c.args.expr.now c.in-Compare.place c.in-Compare.operator c.in-Compare.left
     c.in-Compare.right c.place.result c.place-in-Compare.result t c.in-Compare.is
     (c.place.ensures ∙ ap (λ (x : RustExpr). place_of (expr_of x)) c.deref-in-Compare.ensures)
     (c.place-in-Compare.ensures ∙ ap (λ (x : RustExpr). place_of (expr_of x)) c.deref-in-Compare-2.ensures)
@@ -70,7 +70,7 @@ returns-in-Index c =
     into_same f c.add_index.result (flows_kept c.args.sinks.now) (flows_kept c.add_index.new.sinks)
     (index_sinks m (expr_of c.deref-in-Index.result.now) t)
     (sinks_in m k (owned c.args.owner (expr_of c.args.expr.now)))
-    (index_taken m k c.args.owner c.args.expr.now c.in-Index.field-0 c.in-Index.object c.in-Index.index
+    (index_taken m k c.args.owner c.args.expr.now c.in-Index.place c.in-Index.object c.in-Index.index
     c.deref-in-Index.result.now c.place-in-Index.result t c.in-Index.is c.deref-in-Index.ensures
     (c.place-in-Index.ensures ∙ ap (λ (x : RustExpr). place_of (expr_of x)) c.deref-in-Index-2.ensures)
     c.type_at-in-Index.ensures.tree) c.add_index.ensures
@@ -87,7 +87,7 @@ returns-in_ok-add_positional-in-Call c =
     on_whole f c.add_named.result (flows_kept c.args.sinks.now) (flows_kept c.add_positional.new.sinks)
     (flows_kept c.add_named.new.sinks) (positional_sinks cs 0 (exprs_of_list v.items))
     (named_sinks cs (keywords_of_list ks.items)) (sinks_in m k (owned c.args.owner (expr_of c.args.expr.now)))
-    (arguments_taken m k c.args.owner c.args.expr.now c.in-Call.field-0 c.in-Call.callee v ks cs c.len.result
+    (arguments_taken m k c.args.owner c.args.expr.now c.in-Call.place c.in-Call.callee v ks cs c.len.result
     c.in-Call.is count (rw c.deref-in-Call.ensures at c.in_ok-called-in-Call.ensures.called))
     (rw (c.deref-in-Call-2.ensures.value, c.deref-in-Call-3.ensures.value) at c.in_ok-add_positional-in-Call.ensures)
     (rw (c.deref-in-Call-4.ensures.value, c.deref-in-Call-5.ensures.value) at c.add_named.ensures)

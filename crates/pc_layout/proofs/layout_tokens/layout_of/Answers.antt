@@ -8,10 +8,10 @@ returns-clause-begins g c = record { over = refl; due = c.new.ensures.due; token
 
 pub returns-clause-lays : goal.returns-clause-lays
 returns-clause-lays g c = lays_out g.I.Iterator.next_gives c.args.source.now c.args.lines
-    (record { lines = c.args.lines; hand = c.new.result })
+    (record { lines = c.args.lines; pending_line = c.new.result })
     (record { over = refl; due = c.new.ensures.due; tokens = c.new.ensures.pending })
 
 pub returns-clause-within : goal.returns-clause-within
 returns-clause-within g c = lays_within g.I.Iterator.next_gives (toks_gives g.I.Iterator.next_gives) c.args.source.now
     c.args.lines
-    (record { hand = c.new.result; lines = c.args.lines }) (returns-clause-lays g c)
+    (record { pending_line = c.new.result; lines = c.args.lines }) (returns-clause-lays g c)

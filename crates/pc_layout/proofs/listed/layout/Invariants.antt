@@ -10,6 +10,6 @@ abbrev pub invariant-loop-token : goal.invariant-loop-token
 invariant-loop-token l = record {
   can : (goal.iterator-loop-token).can_next l.token-iterator;
   ends : (goal.iterator-loop-token).is_finite l.token-iterator;
-  leads : (ys : List (Result Lexeme Fault)) → ItemsLeft gives_line l.token-iterator.hand l.token-iterator.lines ys
+  leads : (ys : List (Result Lexeme Fault)) → ItemsLeft gives_line l.token-iterator.pending_line l.token-iterator.lines ys
       → Gathers l.source (map logical_line_of l.lines) (map lexeme_of l.tokens.items) ys;
 }

@@ -6,10 +6,10 @@ use Rattle.pc_module_rules.proofs.laws.walks_say_what_labels_say.Goals as goal
 
 pub returns : goal.returns
 returns c = record {
-  statement = λ setting returned kr declared seen table env broken found t f k s labels out l. stmt_says setting
-      returned kr declared seen table env broken found t f k s labels out l;
-  suite = λ setting returned kr declared seen table env broken found t f k b labels out l. suite_says setting returned
-      kr declared seen (record { table = table; env = Some env; broken = broken; found = found }) env refl t f k b
+  statement = λ around returned kr declared seen table env exit_env found t f k s labels out l. stmt_says around
+      returned kr declared seen table env exit_env found t f k s labels out l;
+  suite = λ around returned kr declared seen table env exit_env found t f k b labels out l. suite_says around returned
+      kr declared seen (record { table = table; env = Some env; exit_env = exit_env; found = found }) env refl t f k b
       labels out l;
   body = bodies_say;
 }

@@ -4,7 +4,7 @@ use Rattle.pc_name_details.specs.Naming.{suite_rule}
 use Rattle.pc_name_details.specs.Naming.{statements_rule}
 use Rattle.pc_name_details.specs.Offered.{AddsDetails}
 use Rattle.std.proofs.lemmas.List.{take_all}
-use Rattle.pc_detail_facts.specs.declared.facts.Body.{Body as RustBody}
+use Rattle.pc_detail_facts.specs.declared.definitions.Body.{Body as RustBody}
 use Rattle.pc_name_details.proofs.NamingSteps.{all_next}
 use Rattle.pc_name_details.proofs.Offered.{none_added}
 use Rattle.pc_name_details.proofs.leaving.add_statements.Goals as goal

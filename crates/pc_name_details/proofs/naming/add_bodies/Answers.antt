@@ -4,7 +4,7 @@ use Rattle.pc_name_details.specs.Naming.{body_rule}
 use Rattle.pc_detail_rules.specs.Names.{first_of_all}
 use Rattle.pc_name_details.specs.Offered.{AddsDetails}
 use Rattle.std.proofs.lemmas.List.{take_all}
-use Rattle.pc_detail_facts.specs.declared.facts.Body.{Body as RustBody}
+use Rattle.pc_detail_facts.specs.declared.definitions.Body.{Body as RustBody}
 use Rattle.pc_name_details.proofs.NamingSteps.{all_next}
 use Rattle.pc_name_details.proofs.Offered.{none_added}
 use Rattle.pc_name_details.proofs.naming.add_bodies.Goals as goal

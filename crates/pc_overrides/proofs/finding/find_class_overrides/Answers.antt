@@ -8,7 +8,7 @@ use Rattle.pc_annotations.specs.Bases.{base_named}
 use Rattle.pc_class.specs.declared.table.Method.{Method as RustMethod}
 use Rattle.pc_class.specs.Facts.{Method, base_facts, own_methods, classes_of}
 use Rattle.pc_overrides.specs.Internal.OverrideTests.{methods_above}
-use Rattle.pc_overrides.specs.Internal.Standing.{IsKnown}
+use Rattle.pc_overrides.specs.Internal.Representing.{IsKnown}
 use Rattle.pc_class.specs.OverrideFindings.{found_at_methods}
 use Rattle.pc_class.specs.Overrides.{overridden}
 use Rattle.pc_class.specs.Tables.{empty_entry, inherited_entry, method_with}

@@ -2,7 +2,7 @@ use Rattle.std.proofs.Common.{◌≡◌, ◌++◌, map, drop}
 use Rattle.std.specs.Prelude.{All}
 use Rattle.pc_types.specs.Store.{KeepsTypes}
 use Rattle.pc_overrides.specs.Internal.OverrideTests.{methods_above}
-use Rattle.pc_overrides.specs.Internal.Standing.{IsKnown}
+use Rattle.pc_overrides.specs.Internal.Representing.{IsKnown}
 use Rattle.pc_class.specs.OverrideFindings.{found_at_methods}
 use Rattle.pc_class.specs.Tables.{method_with}
 use Rattle.pc_class.specs.Parts.{bases_in}

@@ -7,7 +7,7 @@ use Rattle.pc_tree.specs.Tree.{ClassDef, module_of}
 use Rattle.pc_scope.specs.Bindings.{classes_in}
 use Rattle.pc_class.specs.OverrideFindings.{overrides_from}
 use Rattle.pc_overrides.specs.declared.known.Judging.{Judging}
-use Rattle.pc_overrides.specs.Internal.Standing.{IsKnown, AreKnown}
+use Rattle.pc_overrides.specs.Internal.Representing.{IsKnown, AreKnown}
 use Rattle.pc_class.specs.Facts.{ClassFacts}
 use Rattle.pc_class.proofs.ItemsBuilt.{bases_are, bases_there}
 use Rattle.pc_overrides.proofs.KnownMethods.{known_none, known_then}

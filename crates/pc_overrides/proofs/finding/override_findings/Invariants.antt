@@ -3,7 +3,7 @@ use Rattle.pc_tree.specs.Tree.{module_of}
 use Rattle.pc_scope.specs.Bindings.{classes_in}
 use Rattle.pc_types.specs.Store.{KeepsTypes}
 use Rattle.pc_class.specs.OverrideFindings.{overrides_from}
-use Rattle.pc_overrides.specs.Internal.Standing.{AreKnown}
+use Rattle.pc_overrides.specs.Internal.Representing.{AreKnown}
 use Rattle.pc_overrides.proofs.finding.override_findings.Given as goal
 
 abbrev pub invariant-loop-class : goal.invariant-loop-class

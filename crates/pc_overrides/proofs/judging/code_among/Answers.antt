@@ -10,7 +10,7 @@ use Rattle.pc_class.specs.Tables.{method_with}
 use Rattle.pc_class.specs.Parts.{bases_in}
 use Rattle.pc_overrides.specs.declared.overriding.Relation.TheVariants as relations
 use Rattle.pc_overrides.specs.Internal.OverrideTests.{meets_demand, module_judged, methods_above}
-use Rattle.pc_overrides.specs.Internal.Standing.{static_where}
+use Rattle.pc_overrides.specs.Internal.Representing.{static_where}
 use Rattle.pc_overrides.proofs.ClassOverrides.{entries_keep}
 use Rattle.pc_overrides.proofs.Demands.{code_by_enough}
 use Rattle.pc_overrides.proofs.ListedMethods.{listed_well_formed}

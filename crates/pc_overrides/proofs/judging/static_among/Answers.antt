@@ -5,7 +5,7 @@ use Rattle.pc_class.specs.Tables.{method_with}
 use Rattle.pc_class.specs.Parts.{bases_in}
 use Rattle.pc_overrides.specs.declared.overriding.Relation.TheVariants as relations
 use Rattle.pc_overrides.specs.Internal.OverrideTests.{meets_demand}
-use Rattle.pc_overrides.specs.Internal.Standing.{static_where}
+use Rattle.pc_overrides.specs.Internal.Representing.{static_where}
 use Rattle.pc_overrides.proofs.Demands.{and_further, tested_from, listed_item}
 use Rattle.pc_overrides.proofs.OverrideWalk.{method_given, method_keeps}
 use Rattle.pc_overrides.proofs.judging.static_among.Goals.{then-is_static, else-is_static}

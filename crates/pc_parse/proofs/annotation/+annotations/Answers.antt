@@ -15,54 +15,40 @@ arguments-returns-then-sees g t c = opened c.no_arguments.new.reader c.in_ok-tak
     (kind_seen (kind.Operator sign.LeftParenthesis) (sym c.sees.ensures ∙ c.if-sees.true) c.in_ok-take.ensures.here)
     c.args.head c.no_arguments.result c.no_arguments.ensures
 
-pub arguments-loop-arguments-init : goal.arguments-loop-arguments-init
-arguments-loop-arguments-init g t c = record {
+pub arguments-loop-argument-init : goal.arguments-loop-argument-init
+arguments-loop-argument-init g t c = record {
   ready = c.requires;
   later = omega arith;
   arguments = λ ts st. no_arguments_yet c.args.reader.now c.new-arguments.result c.args.head
       (sym c.sees.ensures ∙ c.if-sees.false) c.new-arguments.ensures ts st;
 }
 
-pub arguments-returns-in_err-argument : goal.arguments-returns-in_err-argument
-arguments-returns-in_err-argument g t c = let p = err_from_is_err_and c.from_residual-in_err-argument.result
-    c.from_residual-in_err-argument.ensures.1 in
-    rw (p.1, p.2) (argument_fails c.loop-arguments.invariant.arguments c.in_err-argument.ensures.reads)
+pub arguments-returns-in-Err : goal.arguments-returns-in-Err
+arguments-returns-in-Err g t c = (argument_fails c.loop-argument.invariant.arguments c.in-Err.ensures.reads)
 
 pub arguments-returns-in_err-close : goal.arguments-returns-in_err-close
 arguments-returns-in_err-close g t c = let p = err_from_is_err_and c.from_residual-in_err-close.result
     c.from_residual-in_err-close.ensures.1 in
-    rw (p.1, p.2) (close_fails c.loop-arguments.invariant.arguments c.in_ok-argument.ensures.reads
-    c.in_ok-argument.ensures.over (sym c.sees-in-loop-arguments.ensures ∙ c.if-not-sees.true)
+    rw (p.1, p.2) (close_fails c.loop-argument.invariant.arguments c.in-Ok.ensures.reads
+    c.in-Ok.ensures.over (sym c.sees-in-loop-argument.ensures ∙ c.if-not-sees.true)
     c.in_err-close.ensures.taken)
 
 pub arguments-returns-then-not-sees : goal.arguments-returns-then-not-sees
-arguments-returns-then-not-sees g t c = all_arguments c.loop-arguments.invariant.arguments
-    c.in_ok-argument.ensures.reads c.in_ok-close.ensures.taken c.in_ok-push.ensures c.loop-arguments.invariant.later
+arguments-returns-then-not-sees g t c = all_arguments c.loop-argument.invariant.arguments
+    c.in-Ok.ensures.reads c.in_ok-close.ensures.taken c.in_ok-push.ensures c.loop-argument.invariant.later
     c.in_ok-close.ensures.kind c.applied.ensures
 
-pub arguments-returns-in_err-take-2 : goal.arguments-returns-in_err-take-2
-arguments-returns-in_err-take-2 g t c = let p = err_from_is_err_and c.from_residual-in_err-take-2.result
-    c.from_residual-in_err-take-2.ensures.1 in
-    rw (p.1, p.2) (comma_fails c.loop-arguments.invariant.arguments c.in_ok-argument.ensures.reads
-    c.in_err-take-2.ensures)
+pub arguments-returns-in-Err-take : goal.arguments-returns-in-Err-take
+arguments-returns-in-Err-take g t c = (comma_fails c.loop-argument.invariant.arguments c.in-Ok.ensures.reads
+    c.in-Err-take.ensures)
 
-pub arguments-loop-arguments-preserved-in_ok-take-2 : goal.arguments-loop-arguments-preserved-in_ok-take-2
-arguments-loop-arguments-preserved-in_ok-take-2 g t c = let h = c.in_ok-take-2.ensures in let n =
-    c.in_ok-argument.ensures.reads in record {
-      ready = h.ready;
-      later = omega (arith, h.later, n.later, c.loop-arguments.invariant.later);
-      arguments = λ ts st. more_arguments c.loop-arguments.invariant.arguments n h c.in_ok-push.ensures
-          (kind_seen (kind.Operator sign.Comma) (sym c.sees-in-loop-arguments.ensures ∙ c.if-not-sees.false) h.here)
-          ts st;
-    }
-
-pub arguments-loop-arguments-preserved : goal.arguments-loop-arguments-preserved
-arguments-loop-arguments-preserved g t c = let h = c.in_ok-take-2.ensures in let n = c.in_ok-argument.ensures.reads in
+pub arguments-loop-argument-preserved : goal.arguments-loop-argument-preserved
+arguments-loop-argument-preserved g t c = let h = c.in-Ok-take.ensures in let n = c.in-Ok.ensures.reads in
     record {
       ready = h.ready;
-      later = omega (arith, h.later, n.later, c.loop-arguments.invariant.later);
-      arguments = λ ts st. more_arguments c.loop-arguments.invariant.arguments n h c.in_ok-push.ensures
-          (kind_seen (kind.Operator sign.Comma) (sym c.sees-in-loop-arguments.ensures ∙ c.if-not-sees.false) h.here)
+      later = omega (arith, h.later, n.later, c.loop-argument.invariant.later);
+      arguments = λ ts st. more_arguments c.loop-argument.invariant.arguments n h c.in_ok-push.ensures
+          (kind_seen (kind.Operator sign.Comma) (sym c.sees-in-loop-argument.ensures ∙ c.if-not-sees.false) h.here)
           ts st;
     }
 
@@ -117,15 +103,6 @@ pub union-returns-in_err-take-2-clause-reads : goal.union-returns-in_err-take-2-
 union-returns-in_err-take-2-clause-reads g t c = let p = err_from_is_err_and c.from_residual-in_err-take-2.result
     c.from_residual-in_err-take-2.ensures.1 in
     rw (p.1, p.2) (bar_fails c.loop-parts.invariant.parts c.in_ok-part.ensures c.in_err-take-2.ensures)
-
-pub union-loop-parts-preserved-in_ok-take-2 : goal.union-loop-parts-preserved-in_ok-take-2
-union-loop-parts-preserved-in_ok-take-2 g t c = let h = c.in_ok-take-2.ensures in let n = c.in_ok-part.ensures in
-    record {
-      ready = h.ready;
-      later = omega (arith, h.later, n.later, c.loop-parts.invariant.later);
-      parts = more_parts c.loop-parts.invariant.parts n c.in_ok-push-2.ensures h
-          (kind_seen (kind.Operator sign.Bar) (sym c.sees-in-loop-parts.ensures ∙ c.if-not-sees-2.false) h.here);
-    }
 
 pub union-loop-parts-preserved : goal.union-loop-parts-preserved
 union-loop-parts-preserved g t c = let h = c.in_ok-take-2.ensures in let n = c.in_ok-part.ensures in record {

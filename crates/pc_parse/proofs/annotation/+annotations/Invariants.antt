@@ -14,8 +14,8 @@ decreases-part g l = 4 * left_in g.I.Iterator.remaining l.reader.now + 1
 abbrev pub decreases-union : goal.decreases-union
 decreases-union g l = 4 * left_in g.I.Iterator.remaining l.reader.now + 2
 
-abbrev pub invariant-arguments-loop-arguments : goal.invariant-arguments-loop-arguments
-invariant-arguments-loop-arguments g l = record {
+abbrev pub invariant-arguments-loop-argument : goal.invariant-arguments-loop-argument
+invariant-arguments-loop-argument g l = record {
   ready : IsReady g.I.Iterator.can_next g.I.Iterator.remaining l.reader;
   later : left_in g.I.Iterator.remaining l.reader ≤ left_in g.I.Iterator.remaining l.fn.reader;
   arguments : (ts : List Lexeme) → Starts ts l.fn.head.place.start
@@ -23,8 +23,8 @@ invariant-arguments-loop-arguments g l = record {
       l.reader l.arguments l.fn.head ts;
 }
 
-abbrev pub decreases-arguments-loop-arguments : goal.decreases-arguments-loop-arguments
-decreases-arguments-loop-arguments g l = left_in g.I.Iterator.remaining l.reader
+abbrev pub decreases-arguments-loop-argument : goal.decreases-arguments-loop-argument
+decreases-arguments-loop-argument g l = left_in g.I.Iterator.remaining l.reader
 
 abbrev pub invariant-union-loop-parts : goal.invariant-union-loop-parts
 invariant-union-loop-parts g l = record {

@@ -6,6 +6,6 @@ use Rattle.pc_scope.specs.Internal.WalkViews.{at_text}
 use Rattle.pc_scope.proofs.globals.globals.Given as goal
 
 abbrev pub invariant-loop-item : goal.invariant-loop-item
-invariant-loop-item l = (l.constants ≤ l.item-index) × (l.functions ≤ l.item-index) × (l.classes ≤ l.item-index)
-    × ((text : List ℕ) → first_of (at_text l.globals text) (bound_first l.constants l.functions l.classes
-    (map item_of (drop l.item-index l.items)) text) ≡ bound_first 0 0 0 (map item_of l.items) text)
+invariant-loop-item l = (l.bound.constants ≤ l.item-index) × (l.bound.functions ≤ l.item-index) × (l.bound.classes ≤ l.item-index)
+    × ((text : List ℕ) → first_of (at_text l.globals text) (bound_first l.bound.constants l.bound.functions
+    l.bound.classes (map item_of (drop l.item-index l.items)) text) ≡ bound_first 0 0 0 (map item_of l.items) text)

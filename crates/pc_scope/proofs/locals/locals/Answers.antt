@@ -1,4 +1,4 @@
-use Rattle.std.proofs.Common.{◌∙◌, ap, map, fold, ◌++◌, List, ℕ}
+use Rattle.std.proofs.Common.{◌∙◌, ap, map, fold, ◌++◌, [], List, ℕ}
 use Rattle.pc_tree.specs.Tree.{Name, param_of, stmts_of_list}
 use Rattle.pc_tree.specs.Stopping.{bound_by}
 use Rattle.pc_tree.specs.Stopping.{self_before}
@@ -13,13 +13,10 @@ returns c =
     let self = self_before c.args.is_method in
     let params = texts (param_names (map param_of c.args.def.now.params.items)) in
     let body = bound_by (stmts_of_list c.args.def.now.body.items) in
-    let first = c.in_ok-bind_self.ensures ∙ ap (λ (ks : List (List ℕ)). fold with_new_local ks self)
-    c.in_ok-locals.ensures in
-    let second = rw c.deref-2.ensures.value at c.in_ok-bind_parameters.ensures
-    ∙ ap (λ (ks : List (List ℕ)). fold with_new_local ks params) first in
     let names = rw c.deref.ensures.value at c.in_ok-add_bound.ensures
     ∙ ap (λ ns. map name_seen ns ++ body) c.new-names.ensures.items in
-    rw c.deref-3.ensures.value at c.in_ok-bind_all.ensures
-    ∙ ap (λ (ns : List Name). fold with_new_local (locals_in c.bind_parameters.new.locals) (texts ns))
-    names ∙ ap (λ (ks : List (List ℕ)). fold with_new_local ks (texts body)) second
+    rw (c.deref-2.ensures.value, c.deref-3.ensures.value) at c.in_ok-bind_locals.ensures
+    ∙ ap (λ (ks : List (List ℕ)). fold with_new_local (fold with_new_local (fold with_new_local ks self) params)
+    (texts (map name_seen c.add_bound.new.names.items))) c.in_ok-locals.ensures
+    ∙ ap (λ (ns : List Name). fold with_new_local (fold with_new_local (fold with_new_local [] self) params) (texts ns)) names
     ∙ in_turn self params (texts body)

@@ -46,7 +46,7 @@ seek_inside-returns-in_ok-seek_all-in-Call t c =
     rw c.in-Call.is (subst (λ (x : Expr). OnOk c.seek_values.result
     (c.seek_values.new.found.items ≡ c.args.found.now.items ++ sought_among c.args.scopes.now.tables c.args.sought
     (inner_parts (is_judged c.args.sought) x)))
-    (sym (call_tree c.in-Call.field-0 c.in-Call.callee c.in-Call.arguments c.in-Call.by_name))
+    (sym (call_tree c.in-Call.place c.in-Call.callee c.in-Call.arguments c.in-Call.by_name))
     (subst (λ (fs : List Finding). OnOk c.seek_values.result (c.seek_values.new.found.items ≡ fs)) e
     (rw c.deref-in-Call-6.ensures.value at c.seek_values.ensures)))
 

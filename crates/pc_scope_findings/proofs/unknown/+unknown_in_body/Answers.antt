@@ -36,7 +36,7 @@ find_unknown_in_statement-returns-in_ok-find_unknown-in-For t c first =
     rw c.in-For.is (subst (λ (s : Stmt). OnOk c.find_unknown_in_body-in-For.result
     (c.find_unknown_in_body-in-For.new.found.items ≡ c.args.found.now.items ++ at_code E02
     (unknown_in (meaning_by_tables c.args.scopes.now.tables c.args.owner) (exprs_in true s))))
-    (sym (for_tree first c.in-For.field-0 c.in-For.iterable c.in-For.body))
+    (sym (for_tree first c.in-For.target c.in-For.iterable c.in-For.body))
     (subst (λ (fs : List Finding). OnOk c.find_unknown_in_body-in-For.result
     (c.find_unknown_in_body-in-For.new.found.items ≡ fs)) e (rw c.deref-in-For-2.ensures.value at
     c.find_unknown_in_body-in-For.ensures)))

@@ -6,7 +6,7 @@ use Rattle.pc_scope.specs.Bindings.{classes_in}
 use Rattle.pc_class.proofs.ItemsBuilt.{item_ahead, items_ahead}
 use Rattle.pc_notes.specs.Notes.{notes_of}
 use Rattle.pc_rules.specs.Computed.Signatures.{ItemsReached}
-use Rattle.pc_rules.proofs.Checkers.{goes_further}
+use Rattle.pc_rules.proofs.TypingStates.{goes_further}
 use Rattle.pc_annotations.specs.ModuleOutlines.{module_in}
 use Rattle.pc_signatures.specs.Internal.ItemsRead.{methods_with, reached_with}
 use Rattle.pc_callables.proofs.HeldSignatures.{globals_kept}
@@ -34,14 +34,14 @@ loop-item-preserved g c =
     c.in_ok-add_item.ensures.reached ∙ classes_more m old (item_of x) in
     record {
       ahead = items_ahead all n items i x less is v.ahead k more;
-      globals = globals_kept has tree c.loop-item.checker.store.now c.add_item.new.checker.store.now c.args.globals.now
+      globals = globals_kept has tree c.loop-item.state.store.now c.add_item.new.state.store.now c.args.globals.now
           c.add_item.ensures.goes_on.kept v.globals;
       held = c.in_ok-add_item.ensures.held;
       reached = reached_next m old new items i x less is c.in_ok-add_item.ensures.reached ∙ v.reached;
       methods = stepped (map (methods_with tree) c.loop-item.read.methods.items)
           (map (methods_with tree) c.add_item.new.read.methods.items) _ _ _ _ v.methods
           (classes_apart m items i x less is) c.in_ok-add_item.ensures.methods;
-      found = stepped (notes_of c.loop-item.checker.found.now) (notes_of c.add_item.new.checker.found.now) _ _ _ _
+      found = stepped (notes_of c.loop-item.state.found.now) (notes_of c.add_item.new.state.found.now) _ _ _ _
           v.found (items_found m c.args.globals.now.keeps old new items i x less is c.in_ok-add_item.ensures.reached)
           c.in_ok-add_item.ensures.found;
       goes_on = goes_further v.goes_on c.add_item.ensures.goes_on;

@@ -22,7 +22,7 @@ returns-clause-labelled g c =
     (c.len.ensures ∙ c.args.read.now.methods.ok.0) (module_names m _ globals.outline.scopes.tables)
     (ap (declared_of tree) c.in_ok-declared.ensures) (ap (env_of tree) c.in_ok-env.ensures) in
     subst (λ (k : Standing). IfOk c.check_expr.result (λ l. MeansLabel g.S.TypeStore.has tree
-    c.check_expr.new.checker.store.now l (label_in k (option_map tree c.args.want.now) (expr_of c.args.value.now))))
+    c.check_expr.new.state.store.now l (label_in k (option_map tree c.args.want.now) (expr_of c.args.value.now))))
     is c.check_expr.ensures.labelled
 
 pub returns-clause-found : goal.returns-clause-found
@@ -36,6 +36,6 @@ returns-clause-found g c =
     globals.outline.parents globals.classes globals.functions.are (ap (map tree) c.deref.ensures.value)
     (c.len.ensures ∙ c.args.read.now.methods.ok.0) (module_names m _ globals.outline.scopes.tables)
     (ap (declared_of tree) c.in_ok-declared.ensures) (ap (env_of tree) c.in_ok-env.ensures) in
-    subst (λ (k : Standing). OnOk c.check_expr.result ((notes_of c.check_expr.new.checker.found.now)
-    ≡ (notes_of c.args.checker.now.found.now) ++ finds_in k (option_map tree c.args.want.now)
+    subst (λ (k : Standing). OnOk c.check_expr.result ((notes_of c.check_expr.new.state.found.now)
+    ≡ (notes_of c.args.state.now.found.now) ++ finds_in k (option_map tree c.args.want.now)
     (expr_of c.args.value.now))) is c.check_expr.ensures.found

@@ -10,12 +10,12 @@ pub read_items-requires : goal.read_items-requires
 read_items-requires g c =
     let has = g.S.TypeStore.has in
     let tree = g.S.TypeStore.tree in
-    let store = c.read_functions.new.checker.store.now in
+    let store = c.read_functions.new.state.store.now in
     let typed = c.in_ok-functions.ensures.typed in
     record {
       outline = c.requires.outline;
       classes = c.requires.classes;
-      entries = entries_kept (has c.args.checker.now.store.now) (has store) c.read_functions.ensures.goes_on.kept _
+      entries = entries_kept (has c.args.state.now.store.now) (has store) c.read_functions.ensures.goes_on.kept _
           c.requires.entries;
       functions = record {
         given = subst (HasSignatures (has store)) (sym c.deref.ensures.value) typed.given;
@@ -26,11 +26,11 @@ read_items-requires g c =
 pub returns-clause-held : goal.returns-clause-held
 returns-clause-held g c =
     let has = g.S.TypeStore.has in
-    let store = c.read_items.new.checker.store.now in
+    let store = c.read_items.new.state.store.now in
     let read = c.in_ok-read.ensures.held in
     record {
       constants = read.constants;
-      functions = signatures_kept has c.read_functions.new.checker.store.now store c.read_items.ensures.goes_on.kept
+      functions = signatures_kept has c.read_functions.new.state.store.now store c.read_items.ensures.goes_on.kept
           c.in_ok-functions.functions.items c.in_ok-functions.ensures.typed.given;
       methods = All-map (HasSignatures (has store)) (λ v. v.items) c.in_ok-read.read.methods.items read.methods;
     }

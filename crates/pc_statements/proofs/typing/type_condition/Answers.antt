@@ -38,7 +38,7 @@ returns-clause-where_true g c =
     let ways = c.in_ok-typed.ensures.ways in
     let f = w.context in
     subst (λ (ds : List Tree). GivesTypes S.has tree (class_parents f.globals.now)
-    c.type_condition.new.checker.store.now
+    c.type_condition.new.state.store.now
     c.in_ok-typed.typed.ways.where_true
     (narrow (class_parents f.globals.now) ds (meanings f.names.now) true (expr_of c.args.condition.now)
     (env_of tree c.args.env.now)))
@@ -55,7 +55,7 @@ returns-clause-where_false g c =
     let ways = c.in_ok-typed.ensures.ways in
     let f = w.context in
     subst (λ (ds : List Tree). GivesTypes S.has tree (class_parents f.globals.now)
-    c.type_condition.new.checker.store.now
+    c.type_condition.new.state.store.now
     c.in_ok-typed.typed.ways.where_false
     (narrow (class_parents f.globals.now) ds (meanings f.names.now) false (expr_of c.args.condition.now)
     (env_of tree c.args.env.now)))
@@ -70,8 +70,8 @@ returns-clause-finds g c =
     let tree = S.tree in
     let w = c.args.walk.now in
     let e = expr_of c.args.condition.now in
-    let store = c.type_condition.new.checker.store.now in
-    let found = c.type_condition.new.checker.found.now in
+    let store = c.type_condition.new.state.store.now in
+    let found = c.type_condition.new.state.found.now in
     let new = record w { store = record w.store { now = store }; found = record w.found { now = found } } in
     let pushed = subst (λ (ds : List Tree). notes_of found ≡ notes_of w.found.now ++ finds_in
     (record {

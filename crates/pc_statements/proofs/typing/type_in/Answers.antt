@@ -44,7 +44,7 @@ returns-clause-labelled g c =
     let k = standing_in S w c.args.env.now in
     let want = option_map tree c.args.want.now in
     let e = expr_of c.args.e.now in
-    let store = c.check_expr.new.checker.store.now in
+    let store = c.check_expr.new.state.store.now in
     let l = c.in_ok-label.label in
     let new = record w { store = record w.store { now = store } } in
     let label = subst (λ (ds : List Tree). MeansLabel S.has tree store l (label_in
@@ -68,8 +68,8 @@ returns-clause-finds g c =
     let w = c.args.walk.now in
     let want = option_map tree c.args.want.now in
     let e = expr_of c.args.e.now in
-    let store = c.check_expr.new.checker.store.now in
-    let found = c.check_expr.new.checker.found.now in
+    let store = c.check_expr.new.state.store.now in
+    let found = c.check_expr.new.state.found.now in
     let new = record w { store = record w.store { now = store }; found = record w.found { now = found } } in
     let pushed = subst (λ (ds : List Tree). notes_of found ≡ notes_of w.found.now ++ finds_in
     (record {

@@ -41,7 +41,7 @@ find_given-returns-in_ok-find_given_again-in-Call t c =
     let values = given_in_keywords (keywords_of_list c.in-Call.by_name.items) in
     rw c.in-Call.is (joined r E01 c.args.found.now.items one four callee (arguments ++ (again ++ values)) _
     (rw c.deref-in-Call.ensures at c.in_ok-find_given-in-Call.ensures)
-    (ap (λ (e : Expr). given_in e) (call_tree c.in-Call.field-0 c.in-Call.callee c.in-Call.arguments
+    (ap (λ (e : Expr). given_in e) (call_tree c.in-Call.place c.in-Call.callee c.in-Call.arguments
     c.in-Call.by_name))
     (joined r E01 one two four arguments (again ++ values) (arguments ++ (again ++ values))
     (rw c.deref-in-Call-2.ensures.value at c.in_ok-find_given_in_all-in-Call.ensures) refl

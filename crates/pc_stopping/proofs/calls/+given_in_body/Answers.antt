@@ -41,7 +41,7 @@ find_given_in_statement-returns-in_ok-find_given-in-For t c p =
     c.find_given-in-For.new.found.items c.find_given_in_body-in-For.new.found.items
     (given_in (expr_of c.in-For.iterable.value)) (given_in_stmts (stmts_of_list c.in-For.body.items)) _
     (rw c.deref-in-For.ensures at c.in_ok-find_given-in-For.ensures)
-    (ap (λ (s : Stmt). given_in_stmt s) (for_tree p c.in-For.field-0 c.in-For.iterable c.in-For.body))
+    (ap (λ (s : Stmt). given_in_stmt s) (for_tree p c.in-For.target c.in-For.iterable c.in-For.body))
     (rw c.deref-in-For-2.ensures.value at c.find_given_in_body-in-For.ensures))
 
 pub

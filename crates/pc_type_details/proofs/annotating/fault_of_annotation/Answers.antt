@@ -13,5 +13,5 @@ returns-in-Apply c =
     let f = c.args.facts.now in
     if_ok c.fault_of_types.result (λ o e. e
     ∙ ap (λ (a : Ann). option_map (map_annotation (text_held f)) (annotation_fault (module_held f) a))
-    (sym (applied_is c.args.ann.now c.in-Apply.field-0 c.in-Apply.head c.in-Apply.types c.in-Apply.is)))
+    (sym (applied_is c.args.ann.now c.in-Apply.place c.in-Apply.head c.in-Apply.types c.in-Apply.is)))
     (rw c.deref.ensures.value at c.fault_of_types.ensures)

@@ -12,5 +12,5 @@ returns c =
     let m = module_held c.args.facts.now in
     rw c.in-Call.is (subst (λ (x : Expr). IfOk c.builtin_of.result (ShowsDetail c.args.facts.now
     (builtin_detail m (known_held c.args.facts.now) (resolve m c.args.owned.owner) x)))
-    (sym (call_tree c.in-Call.field-0 c.in-Call.callee c.in-Call.arguments c.in-Call.field-3))
+    (sym (call_tree c.in-Call.place c.in-Call.callee c.in-Call.arguments c.in-Call.keywords))
     (rw (c.deref.ensures, c.deref-2.ensures.value) at c.builtin_of.ensures))

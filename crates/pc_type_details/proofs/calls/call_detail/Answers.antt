@@ -39,7 +39,7 @@ returns-then-is_some c =
     ∙ ap (option_map (map_detail (text_held f)))
     (sym (misfits_next f g cs i c.called-item.result c.loop-called-test.true c.called-item.is)
     ∙ c.loop-called.invariant
-    ∙ call_is m (known_held f) (resolve m c.args.owned.owner) c.args.owned.expr.now c.in-Call.field-0
+    ∙ call_is m (known_held f) (resolve m c.args.owned.owner) c.args.owned.expr.now c.in-Call.place
     c.in-Call.callee c.in-Call.arguments c.in-Call.keywords g (map (called_of f) cs) c.in-Call.is
     (rw (c.deref.ensures.value, c.deref-2.ensures.value) at c.in_ok-given.ensures)
     (ap (λ (l : List CallTarget). map (called_of f) l) c.deref-called-items.ensures.value
@@ -54,7 +54,7 @@ returns c =
     ap (option_map (map_detail (text_held f)))
     (sym (misfits_ended f g cs c.loop-called.called-index c.loop-called-test.false)
     ∙ c.loop-called.invariant
-    ∙ call_is m (known_held f) (resolve m c.args.owned.owner) c.args.owned.expr.now c.in-Call.field-0
+    ∙ call_is m (known_held f) (resolve m c.args.owned.owner) c.args.owned.expr.now c.in-Call.place
     c.in-Call.callee c.in-Call.arguments c.in-Call.keywords g (map (called_of f) cs) c.in-Call.is
     (rw (c.deref.ensures.value, c.deref-2.ensures.value) at c.in_ok-given.ensures)
     (ap (λ (l : List CallTarget). map (called_of f) l) c.deref-called-items.ensures.value

@@ -14,7 +14,7 @@ returns-in-Some c =
     let f = c.args.facts.now in
     let named : true ≡ is_named (codes "range") (expr_of c.in-Call.callee.value) = sym c.if-not-is_range.false
     ∙ c.is_range.ensures ∙ ap (λ (e : RustExpr). is_named (codes "range") (expr_of e)) c.deref.ensures in
-    ranged (module_held f) (known_held f) (text_held f) c.args.expr.now c.in-Call.field-0 c.in-Call.callee
+    ranged (module_held f) (known_held f) (text_held f) c.args.expr.now c.in-Call.place c.in-Call.callee
     c.in-Call.arguments c.in-Call.keywords c.in-Call.is (given_with c.in_ok-given.given)
     (Some (misfit_of_value c.in-Some.misfit)) named
     (rw (c.deref-2.ensures.value, c.deref-3.ensures.value) at c.in_ok-given.ensures)
@@ -25,7 +25,7 @@ returns c =
     let f = c.args.facts.now in
     let named : true ≡ is_named (codes "range") (expr_of c.in-Call.callee.value) = sym c.if-not-is_range.false
     ∙ c.is_range.ensures ∙ ap (λ (e : RustExpr). is_named (codes "range") (expr_of e)) c.deref.ensures in
-    ranged (module_held f) (known_held f) (text_held f) c.args.expr.now c.in-Call.field-0 c.in-Call.callee
+    ranged (module_held f) (known_held f) (text_held f) c.args.expr.now c.in-Call.place c.in-Call.callee
     c.in-Call.arguments c.in-Call.keywords c.in-Call.is (given_with c.in_ok-given.given) None named
     (rw (c.deref-2.ensures.value, c.deref-3.ensures.value) at c.in_ok-given.ensures)
     (ap (option_map misfit_of_value) (sym c.in-None.is) ∙ c.in_ok-misfit.ensures)

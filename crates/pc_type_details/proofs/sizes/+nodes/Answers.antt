@@ -26,8 +26,8 @@ large_nodes-returns-in_ok-nodes_of_each-in-Apply t c =
     let m = module_held c.args.facts.now in
     let v = c.in-Apply.parts in
     let parts = anns_of_list v.items in
-    let many = many_applied m (ann_of c.args.ann.now) c.in-Apply.field-0 (name_of c.in-Apply.field-1) parts
-    (applied_is c.args.ann.now c.in-Apply.field-0 c.in-Apply.field-1 v c.in-Apply.is) c.requires.large in
+    let many = many_applied m (ann_of c.args.ann.now) c.in-Apply.place (name_of c.in-Apply.head) parts
+    (applied_is c.args.ann.now c.in-Apply.place c.in-Apply.head v c.in-Apply.is) c.requires.large in
     let part = rw c.deref.ensures.value at c.in_ok-nodes_of_each-in-Apply.ensures in
     omega (arith, many, part)
 

@@ -9,5 +9,5 @@ use Rattle.pc_type_details.proofs.statements.list_test_detail.Goals as goal
 pub returns : goal.returns
 returns c = rw c.in-Call.is (subst (λ (x : Expr). IfOk c.first_tested.result (ShowsDetail c.args.facts.now
     (list_test_detail (known_held c.args.facts.now) x)))
-    (sym (call_tree c.in-Call.field-0 c.in-Call.field-1 c.in-Call.arguments c.in-Call.field-3))
+    (sym (call_tree c.in-Call.place c.in-Call.callee c.in-Call.arguments c.in-Call.keywords))
     (rw c.deref.ensures.value at c.first_tested.ensures))

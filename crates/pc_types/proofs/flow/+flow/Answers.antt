@@ -1,13 +1,14 @@
-use Rattle.std.proofs.Common.{◌≡◌, ◌+◌, IsTrue, arith, ◌<◌, length, sym, subst₂}
+use Rattle.std.proofs.Common.{◌≡◌, ◌+◌, IsTrue, arith, ◌<◌, length, get_or, sym, subst₂, below_more}
 use Rattle.std.proofs.lemmas.List.Elements.{AllZip-get_or, length_all_zip}
 use Rattle.std.proofs.lemmas.Grind.{common_steps}
 use Rattle.pc_types.specs.Internal.HeadFlow.{w_from_any, w_never, w_object, w_both, w_left, w_right}
+use Rattle.pc_types.specs.declared.boxed.BoxType.{BoxType}
 use Rattle.pc_types.specs.declared.boxed.BoxType.TheVariants as ty
 use Rattle.pc_types.proofs.Truth.{yes_is, no_is, is_no, both_second, both_first, either_first, either_second}
 use Rattle.pc_types.proofs.Truth.{through_is}
 use Rattle.pc_types.proofs.Heads.{is_left, is_right, flow_is_fits, to_any, flow_parts, flow_member, is_no_union}
-use Rattle.pc_types.proofs.Heads.{tuple_flows}
-use Rattle.pc_types.proofs.Tuples.{PartFlows, each_zip, zip_each, zip_from, tuple_is}
+use Rattle.pc_types.proofs.Heads.{tuple_flows, list_flows, dict_flows, whole_flows}
+use Rattle.pc_types.proofs.Tuples.{PartFlows, each_zip, zip_each, zip_from, tuple_is, at_index}
 use Rattle.pc_types.proofs.Weight.{weight, weights, weight_item, weight_tuple}
 use Rattle.pc_types.proofs.flow.+flow.Goals as goal
 
@@ -97,3 +98,46 @@ fits-each_flows-requires t c =
     let w : weights c.deref-in-Tuple-t-2.result.now + 1 ≡ weight c.args.t.now = rw c.deref-in-Tuple-t-2.ensures.value
     (omega (arith, weight_tuple _ _ c.in-Tuple-t.is)) in
     (omega (arith, v, w, c.decreases), tt)
+
+pub fits-returns-in-List-t : goal.fits-returns-in-List-t
+fits-returns-in-List-t t c =
+    rw (c.in-List.is, c.in-List-t.is) (rw (c.deref.ensures, c.deref-in-List-t.ensures) at c.agree.ensures)
+
+pub fits-returns-in_default-t : goal.fits-returns-in_default-t
+fits-returns-in_default-t t c =
+    rw c.in-List.is (no_is (list_flows c.args.parents.now c.args.both c.args.gradual _ c.args.t.now
+    c.in_default-t.not-List))
+
+pub fits-returns-then-agree : goal.fits-returns-then-agree
+fits-returns-then-agree t c =
+    rw (c.in-Dict.is, c.in-Dict-t.is) (both_second c.if-agree.true
+    (rw (c.deref-in-Dict-t.ensures, c.deref-in-Dict-t-2.ensures) at c.agree-in-Dict-t.ensures)
+    (rw (c.deref-then-agree.ensures, c.deref-then-agree-2.ensures) at c.agree-then-agree.ensures)
+    (λ h. ((h.0, h.1), (h.2, h.3))) (λ x y. (x.0, x.1, y.0, y.1)))
+
+pub fits-returns-else-agree : goal.fits-returns-else-agree
+fits-returns-else-agree t c =
+    rw (c.in-Dict.is, c.in-Dict-t.is) (both_first c.if-agree.false
+    (rw (c.deref-in-Dict-t.ensures, c.deref-in-Dict-t-2.ensures) at c.agree-in-Dict-t.ensures) (λ h. (h.0, h.1)))
+
+pub fits-returns-in_default-t-2 : goal.fits-returns-in_default-t-2
+fits-returns-in_default-t-2 t c =
+    rw c.in-Dict.is (no_is (dict_flows c.args.parents.now c.args.both c.args.gradual _ _ c.args.t.now
+    c.in_default-t-2.not-Dict))
+
+pub fits-returns-in_default : goal.fits-returns-in_default
+fits-returns-in_default t c =
+    through_is c.head_fits.ensures (whole_flows c.args.parents.now c.args.both c.args.gradual c.args.s.now c.args.t.now
+    c.in_default.not-List c.in_default.not-Dict c.in_default.not-Tuple)
+
+pub each_flows-loop-i-preserved : goal.each_flows-loop-i-preserved
+each_flows-loop-i-preserved t c =
+    let e : PartFlows c.args.parents.now c.args.gradual c.args.both c.index-ss-i.result c.index-ts-i.result =
+    c.agree.ensures.0 c.if-not-agree.false in (
+      c.loop-i.invariant.0,
+      λ k d f l. below_more (λ j. (d f : BoxType) → PartFlows c.args.parents.now c.args.gradual c.args.both
+          (get_or c.args.ss.now j d) (get_or c.args.ts.now j f)) c.loop-i.i
+          (λ j m d f. c.loop-i.invariant.1 j d f m)
+          (at_index (PartFlows c.args.parents.now c.args.gradual c.args.both) _ _ c.loop-i.i _ _
+          c.loop-i-test.true (omega arith) c.index-ss-i.is c.index-ts-i.is e) k l d f,
+    )

@@ -1,14 +1,17 @@
-use Rattle.std.proofs.Common.{◌≡◌, ◌+◌, ◌<◌, ◌≤◌, length, ap, sym, ◌∙◌, subst, arith, Some, None, false}
+use Rattle.std.proofs.Common.{◌≡◌, ◌+◌, ◌<◌, ◌≤◌, length, ap, refl, sym, ◌∙◌, subst, arith, Some, None, false}
 use Rattle.std.specs.Option.{option_map}
 use Rattle.pc_types.specs.Tree.{TupleOf}
 use Rattle.pc_types.specs.Normal.{member_rank, IsRankBefore, IsNormal}
-use Rattle.pc_types.specs.Join.{is_before, kept_with, one_with, join_of}
+use Rattle.pc_types.specs.Join.{is_before, kept_with, one_with, ahead_of, join_of}
 use Rattle.pc_types.specs.Boxed.{tree_of, trees_in}
 use Rattle.pc_types.proofs.Tuples.{tuple_is, tuple_tree}
 use Rattle.pc_types.proofs.Weight.{tree_weight, trees_weight, split_weight, parts_weight, tree_weight_item}
 use Rattle.pc_types.proofs.Together.{Behind, split_of, split_behind, before_of, first_left, first_right, first_both}
 use Rattle.pc_types.proofs.Together.{never_behind}
-use Rattle.pc_types.proofs.Joined.{JoinsTo, ok_as, each_lengths, joins_more, joins_none, joins_all, tuple_rule_at}
+use Rattle.pc_types.proofs.Joined.{JoinsTo, ok_as, after_ok, each_lengths, joins_more, joins_none, joins_all}
+use Rattle.pc_types.proofs.Joined.{tuple_rule_at, any_left, object_left, never_right, any_right, object_right, listed_of}
+use Rattle.pc_types.proofs.Joined.{equal_join, rule_join, one_kept, one_other, one_unabsorbed}
+use Rattle.pc_types.proofs.Staying.{one_equal}
 use Rattle.pc_types.proofs.Joined.{one_tuple, parts_tree, ordinary_rule, normal_item, normal_parts}
 use Rattle.pc_types.proofs.join.+join.Goals as goal
 
@@ -44,32 +47,32 @@ pub joined_parts-returns : goal.joined_parts-returns
 joined_parts-returns t c = joins_all c.args.parents.now c.args.ss.now c.args.ts.now c.loop-i.parts.items c.loop-i.i
     c.loop-i.invariant.1 (omega arith) (omega arith)
 
-pub merged-merged-requires : goal.merged-merged-requires
-merged-merged-requires t c =
+pub merged-merged-rest-requires : goal.merged-merged-rest-requires
+merged-merged-rest-requires t c =
     let w = split_weight _ _ _ c.in-Some-split.ensures in
     let s = split_of _ _ _ c.in-Some-split.ensures c.requires.right in
     (omega (arith, w.0, c.decreases), (c.requires.empty, (c.requires.left, s.listed)))
 
-pub merged-merged-requires-in-None-split-2 : goal.merged-merged-requires-in-None-split-2
-merged-merged-requires-in-None-split-2 t c =
+pub merged-merged-rest-requires-in-None-split-2 : goal.merged-merged-rest-requires-in-None-split-2
+merged-merged-rest-requires-in-None-split-2 t c =
     let w = split_weight _ _ _ c.in-Some.ensures in
     let s = split_of _ _ _ c.in-Some.ensures c.requires.left in
     (omega (arith, w.0, c.decreases), (c.requires.empty, (s.listed, c.requires.right)))
 
-pub merged-merged-requires-then-stands_before : goal.merged-merged-requires-then-stands_before
-merged-merged-requires-then-stands_before t c =
+pub merged-merged-rest-requires-then-stands_before : goal.merged-merged-rest-requires-then-stands_before
+merged-merged-rest-requires-then-stands_before t c =
     let w = split_weight _ _ _ c.in-Some.ensures in
     let s = split_of _ _ _ c.in-Some.ensures c.requires.left in
     (omega (arith, w.0, c.decreases), (c.requires.empty, (s.listed, c.requires.right)))
 
-pub merged-merged-requires-then-stands_before-2 : goal.merged-merged-requires-then-stands_before-2
-merged-merged-requires-then-stands_before-2 t c =
+pub merged-merged-rest-requires-then-stands_before-2 : goal.merged-merged-rest-requires-then-stands_before-2
+merged-merged-rest-requires-then-stands_before-2 t c =
     let w = split_weight _ _ _ c.in-Some-split-2.ensures in
     let s = split_of _ _ _ c.in-Some-split-2.ensures c.requires.right in
     (omega (arith, w.0, c.decreases), (c.requires.empty, (c.requires.left, s.listed)))
 
-pub merged-merged-requires-else-stands_before-2 : goal.merged-merged-requires-else-stands_before-2
-merged-merged-requires-else-stands_before-2 t c =
+pub merged-merged-requires : goal.merged-merged-requires
+merged-merged-requires t c =
     let w = split_weight _ _ _ c.in-Some.ensures in
     let s = split_of _ _ _ c.in-Some.ensures c.requires.left in
     let v = split_weight _ _ _ c.in-Some-split-2.ensures in
@@ -84,18 +87,18 @@ merged-one_ahead-requires t c =
     let r = split_of _ _ _ c.in-Some-split-2.ensures c.requires.right in
     (omega (arith, w.1, v.1, c.decreases), (s.normal, r.normal))
 
-pub merged-returns-in_ok-rest-in-None-split-2 : goal.merged-returns-in_ok-rest-in-None-split-2
-merged-returns-in_ok-rest-in-None-split-2 t c =
+pub merged-returns-in-None-split-2 : goal.merged-returns-in-None-split-2
+merged-returns-in-None-split-2 t c =
     let b : Behind (tree_of c.in-Some.a.now) (tree_of c.args.t.now) = never_behind _ _ c.in-None-split-2.ensures in
     let e = first_left c.args.parents.now (tree_of c.args.sides.now.left.now) (tree_of c.args.sides.now.right.now)
     (tree_of c.args.s.now) (tree_of c.args.t.now) (tree_of c.in-Some.a.now) (tree_of c.in-Some.others.now)
     c.in-Some.ensures c.requires.left c.requires.right b in
-    let f = ap (kept_with c.args.parents.now (tree_of c.in-Some.a.now) (tree_of c.args.sides.now.right.now))
-    c.in_ok-rest-in-None-split-2.ensures in
-    ok_as (option_map tree_of) c.kept_ahead-in-None-split-2.result _ _ (f ∙ sym e) c.kept_ahead-in-None-split-2.ensures
+    after_ok (kept_with c.args.parents.now (tree_of c.in-Some.a.now) (tree_of c.args.sides.now.right.now))
+    c.merged-rest-in-None-split-2.result c.kept_ahead-in-None-split-2.result _ _ (sym e)
+    c.merged-rest-in-None-split-2.ensures c.kept_ahead-in-None-split-2.ensures
 
-pub merged-returns-in_ok-rest-in-Some-split-2 : goal.merged-returns-in_ok-rest-in-Some-split-2
-merged-returns-in_ok-rest-in-Some-split-2 t c =
+pub merged-returns-then-stands_before : goal.merged-returns-then-stands_before
+merged-returns-then-stands_before t c =
     let h : IsRankBefore (member_rank (tree_of c.in-Some.a.now)) (member_rank (tree_of c.in-Some-split-2.b.now)) =
     before_of _ _ (sym c.stands_before.ensures ∙ c.if-stands_before.true) in
     let b = split_behind (tree_of c.args.t.now) (tree_of c.in-Some.a.now) (tree_of c.in-Some-split-2.b.now)
@@ -103,13 +106,12 @@ merged-returns-in_ok-rest-in-Some-split-2 t c =
     let e = first_left c.args.parents.now (tree_of c.args.sides.now.left.now) (tree_of c.args.sides.now.right.now)
     (tree_of c.args.s.now) (tree_of c.args.t.now) (tree_of c.in-Some.a.now) (tree_of c.in-Some.others.now)
     c.in-Some.ensures c.requires.left c.requires.right b in
-    let f = ap (kept_with c.args.parents.now (tree_of c.in-Some.a.now) (tree_of c.args.sides.now.right.now))
-    c.in_ok-rest-in-Some-split-2.ensures in
-    ok_as (option_map tree_of) c.kept_ahead-then-stands_before.result _ _ (f ∙ sym e)
-    c.kept_ahead-then-stands_before.ensures
+    after_ok (kept_with c.args.parents.now (tree_of c.in-Some.a.now) (tree_of c.args.sides.now.right.now))
+    c.merged-rest-then-stands_before.result c.kept_ahead-then-stands_before.result _ _ (sym e)
+    c.merged-rest-then-stands_before.ensures c.kept_ahead-then-stands_before.ensures
 
-pub merged-returns-in_ok-rest-in-Some-split-2-2 : goal.merged-returns-in_ok-rest-in-Some-split-2-2
-merged-returns-in_ok-rest-in-Some-split-2-2 t c =
+pub merged-returns-then-stands_before-2 : goal.merged-returns-then-stands_before-2
+merged-returns-then-stands_before-2 t c =
     let h : IsRankBefore (member_rank (tree_of c.in-Some-split-2.b.now)) (member_rank (tree_of c.in-Some.a.now)) =
     before_of _ _ (sym c.stands_before-else-stands_before.ensures ∙ c.if-stands_before-2.true) in
     let b = split_behind (tree_of c.args.s.now) (tree_of c.in-Some-split-2.b.now) (tree_of c.in-Some.a.now)
@@ -117,13 +119,12 @@ merged-returns-in_ok-rest-in-Some-split-2-2 t c =
     let e = first_right c.args.parents.now (tree_of c.args.sides.now.left.now) (tree_of c.args.sides.now.right.now)
     (tree_of c.args.s.now) (tree_of c.args.t.now) (tree_of c.in-Some-split-2.b.now)
     (tree_of c.in-Some-split-2.bs.now) c.in-Some-split-2.ensures c.requires.right b in
-    let f = ap (kept_with c.args.parents.now (tree_of c.in-Some-split-2.b.now) (tree_of c.args.sides.now.left.now))
-    c.in_ok-rest-in-Some-split-2-2.ensures in
-    ok_as (option_map tree_of) c.kept_ahead-then-stands_before-2.result _ _ (f ∙ sym e)
-    c.kept_ahead-then-stands_before-2.ensures
+    after_ok (kept_with c.args.parents.now (tree_of c.in-Some-split-2.b.now) (tree_of c.args.sides.now.left.now))
+    c.merged-rest-then-stands_before-2.result c.kept_ahead-then-stands_before-2.result _ _ (sym e)
+    c.merged-rest-then-stands_before-2.ensures c.kept_ahead-then-stands_before-2.ensures
 
-pub merged-returns-in_ok-rest-in-Some-split-2-3 : goal.merged-returns-in_ok-rest-in-Some-split-2-3
-merged-returns-in_ok-rest-in-Some-split-2-3 t c =
+pub merged-returns-in_ok-rest-in-Some-split-2 : goal.merged-returns-in_ok-rest-in-Some-split-2
+merged-returns-in_ok-rest-in-Some-split-2 t c =
     let h : is_before (tree_of c.in-Some.a.now) (tree_of c.in-Some-split-2.b.now) ≡ false = sym c.stands_before.ensures
     ∙ c.if-stands_before.false in
     let k : is_before (tree_of c.in-Some-split-2.b.now) (tree_of c.in-Some.a.now) ≡ false =
@@ -133,7 +134,7 @@ merged-returns-in_ok-rest-in-Some-split-2-3 t c =
     (tree_of c.in-Some-split-2.b.now) (tree_of c.in-Some-split-2.bs.now) c.in-Some.ensures c.requires.left
     c.in-Some-split-2.ensures c.requires.right h k in
     let f = ap (one_with c.args.parents.now (tree_of c.args.sides.now.left.now) (tree_of c.args.sides.now.right.now)
-    (tree_of c.in-Some.a.now) (tree_of c.in-Some-split-2.b.now)) c.in_ok-rest-in-Some-split-2-3.ensures in
+    (tree_of c.in-Some.a.now) (tree_of c.in-Some-split-2.b.now)) c.in_ok-rest-in-Some-split-2.ensures in
     ok_as (option_map tree_of) c.one_ahead.result _ _ (f ∙ sym e) c.one_ahead.ensures
 
 pub one-joined_parts-requires : goal.one-joined_parts-requires
@@ -188,3 +189,85 @@ joined_parts-loop-i-preserved t c =
       subst (JoinsTo c.args.parents.now c.args.ss.now c.args.ts.now (c.loop-i.i + 1))
           (sym c.in_ok-push-in-Some.ensures.items) j,
     )
+
+pub joined-returns-then-is_same : goal.joined-returns-then-is_same
+joined-returns-then-is_same t c =
+    ok_as (option_map tree_of) c.copied.result _ _ (equal_join c.args.parents.now (tree_of c.args.s.now)
+    (tree_of c.args.t.now) c.is_same.result c.is_same.ensures c.if-is_same.true) c.copied.ensures
+
+pub joined-returns-else-is_same : goal.joined-returns-else-is_same
+joined-returns-else-is_same t c =
+    ok_as (option_map tree_of) c.ruled-else-is_same.result _ _ (rule_join c.args.parents.now (tree_of c.args.s.now)
+    (tree_of c.args.t.now) c.is_same.result c.is_same.ensures c.if-is_same.false) c.ruled-else-is_same.ensures
+
+pub merged-returns-in-Some-split : goal.merged-returns-in-Some-split
+merged-returns-in-Some-split t c =
+    let b : Behind (tree_of c.in-Some-split.b.now) (tree_of c.args.s.now) = never_behind _ _ c.in-None.ensures in
+    let e = first_right c.args.parents.now (tree_of c.args.sides.now.left.now) (tree_of c.args.sides.now.right.now)
+    (tree_of c.args.s.now) (tree_of c.args.t.now) (tree_of c.in-Some-split.b.now) (tree_of c.in-Some-split.others.now)
+    c.in-Some-split.ensures c.requires.right b in
+    after_ok (kept_with c.args.parents.now (tree_of c.in-Some-split.b.now) (tree_of c.args.sides.now.left.now))
+    c.merged-rest.result c.kept_ahead.result _ _ (sym e) c.merged-rest.ensures c.kept_ahead.ensures
+
+pub one_ahead-returns-then-is_member_absorbed : goal.one_ahead-returns-then-is_member_absorbed
+one_ahead-returns-then-is_member_absorbed t c =
+    ok_as (option_map tree_of) c.kept_ahead.result _ _ (one_kept c.args.parents.now (tree_of c.args.sides.now.left.now)
+    (tree_of c.args.sides.now.right.now) (tree_of c.args.a.now) (tree_of c.args.b.now)
+    (option_map tree_of c.args.rest) (sym c.is_member_absorbed.ensures ∙ c.if-is_member_absorbed.true))
+    c.kept_ahead.ensures
+
+pub one_ahead-returns-then-is_member_absorbed-2 : goal.one_ahead-returns-then-is_member_absorbed-2
+one_ahead-returns-then-is_member_absorbed-2 t c =
+    ok_as (option_map tree_of) c.copy_ahead.result _ _ (one_other c.args.parents.now (tree_of c.args.sides.now.left.now)
+    (tree_of c.args.sides.now.right.now) (tree_of c.args.a.now) (tree_of c.args.b.now)
+    (option_map tree_of c.args.rest) (sym c.is_member_absorbed.ensures ∙ c.if-is_member_absorbed.false)
+    (sym c.is_member_absorbed-2.ensures ∙ c.if-is_member_absorbed-2.true)) c.copy_ahead.ensures
+
+pub one_ahead-returns : goal.one_ahead-returns
+one_ahead-returns t c =
+    after_ok (λ m. ahead_of m (option_map tree_of c.args.rest)) c.one.result c.both_ahead.result _ _
+    (one_unabsorbed c.args.parents.now (tree_of c.args.sides.now.left.now) (tree_of c.args.sides.now.right.now)
+    (tree_of c.args.a.now) (tree_of c.args.b.now) (option_map tree_of c.args.rest)
+    (sym c.is_member_absorbed.ensures ∙ c.if-is_member_absorbed.false)
+    (sym c.is_member_absorbed-2.ensures ∙ c.if-is_member_absorbed-2.false)) c.one.ensures c.both_ahead.ensures
+
+pub one-returns-then-is_same : goal.one-returns-then-is_same
+one-returns-then-is_same t c =
+    ok_as (option_map tree_of) c.copied.result _ _ (sym (one_equal c.args.parents.now (tree_of c.args.a.now)
+    (tree_of c.args.b.now) (sym c.is_same.ensures ∙ c.if-is_same.true))) c.copied.ensures
+
+pub ruled-returns-in-Never : goal.ruled-returns-in-Never
+ruled-returns-in-Never t c = rw c.in-Never.is c.copied.ensures
+
+pub ruled-returns-in-Any : goal.ruled-returns-in-Any
+ruled-returns-in-Any t c = rw c.in-Any.is (any_left _ _)
+
+pub ruled-returns-in-Any-t : goal.ruled-returns-in-Any-t
+ruled-returns-in-Any-t t c = rw (c.in-Object.is, c.in-Any-t.is) refl
+
+pub ruled-returns-in_default-t : goal.ruled-returns-in_default-t
+ruled-returns-in_default-t t c = rw c.in-Object.is (object_left c.args.t.now _ c.in_default-t.not-Any)
+
+pub ruled-returns-in-Never-t : goal.ruled-returns-in-Never-t
+ruled-returns-in-Never-t t c =
+    rw c.in-Never-t.is (ok_as (option_map tree_of) c.copied-in-Never-t.result _ _ (never_right (tree_of c.args.s.now) _)
+    c.copied-in-Never-t.ensures)
+
+pub ruled-returns-in-Any-t-2 : goal.ruled-returns-in-Any-t-2
+ruled-returns-in-Any-t-2 t c = rw c.in-Any-t-2.is (any_right c.args.s.now _ c.in_default.not-Never)
+
+pub ruled-returns-in-Object-t : goal.ruled-returns-in-Object-t
+ruled-returns-in-Object-t t c =
+    rw c.in-Object-t.is (object_right c.args.s.now _ c.in_default.not-Never c.in_default.not-Any)
+
+pub ruled-merged-requires : goal.ruled-merged-requires
+ruled-merged-requires t c = (
+  omega (arith, c.decreases),
+  (
+    refl,
+    (
+      listed_of c.args.s.now c.in_default.not-Any c.in_default.not-Object c.requires.left,
+      listed_of c.args.t.now c.in_default-t-2.not-Any c.in_default-t-2.not-Object c.requires.right,
+    ),
+  ),
+)

@@ -37,7 +37,7 @@ add_tested_by-returns-in-For t c p =
     let resolve = meanings c.args.names.now in
     rw c.in-For.is (subst (λ (s : Stmt). OnOk c.add_tested_in-in-For.result
     (c.add_tested_in-in-For.new.tested.items ≡ c.args.tested.now.items ++ tested_in_stmt resolve s))
-    (sym (for_tree p c.in-For.field-0 c.in-For.field-1 c.in-For.body))
+    (sym (for_tree p c.in-For.target c.in-For.iterable c.in-For.body))
     (rw c.deref-in-For.ensures.value at c.add_tested_in-in-For.ensures))
 
 pub add_tested_by-returns-in_ok-add_tested_in_branches-in-If :

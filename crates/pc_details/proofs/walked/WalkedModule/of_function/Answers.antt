@@ -1,7 +1,7 @@
 use Rattle.std.proofs.Common.{Option, subst}
 use Rattle.std.specs.Option.{option_and_then, option_map}
 use Rattle.std.specs.Prelude.{IfOk}
-use Rattle.pc_detail_facts.specs.declared.facts.Body.{Body as RustBody}
+use Rattle.pc_detail_facts.specs.declared.definitions.Body.{Body as RustBody}
 use Rattle.pc_details.specs.ByCode.{function_rule}
 use Rattle.pc_detail_facts.specs.Held.{ShowsDetail, body_of, module_held}
 use Rattle.pc_details.proofs.walked.WalkedModule.of_function.Goals as goal

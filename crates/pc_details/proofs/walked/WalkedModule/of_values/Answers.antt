@@ -4,7 +4,7 @@ use Rattle.std.specs.Prelude.{is_some}
 use Rattle.pc_types.specs.Tree.{Tree}
 use Rattle.pc_notes.specs.Texts.{place_cmp}
 use Rattle.pc_detail_texts.specs.Details.{Detail}
-use Rattle.pc_detail_facts.specs.declared.facts.OwnedExpr.{OwnedExpr as RustOwned}
+use Rattle.pc_detail_facts.specs.declared.definitions.OwnedExpr.{OwnedExpr as RustOwned}
 use Rattle.pc_details.specs.ByCode.{expr_rule, target_rule}
 use Rattle.pc_detail_facts.specs.Held.{ShowsDetail, known_held, module_held, owned_of}
 use Rattle.pc_detail_rules.specs.Names.{first_of_all}

@@ -5,7 +5,7 @@ use Rattle.pc_types.specs.Boxed.{tree_of, trees_in}
 use Rattle.pc_types.proofs.Tuples.{tuple_is}
 use Rattle.pc_types.proofs.Nodes.{tuple_parts}
 use Rattle.pc_intern.specs.Table.{tree_at}
-use Rattle.pc_intern.proofs.Standing.{given_item, interned_more, grows_twice}
+use Rattle.pc_intern.proofs.InTable.{given_item, interned_more, grows_twice}
 use Rattle.pc_intern.proofs.Parts.{item_nodes, tuple_given, dict_numbers, first_number, member_pushed, alone}
 use Rattle.pc_intern.proofs.table.Table.+intern.Goals as goal
 

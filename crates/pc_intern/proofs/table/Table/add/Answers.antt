@@ -7,7 +7,7 @@ use Rattle.pc_intern.specs.Table.{tree_at, IsTable, IsNode, AreBasic}
 use Rattle.pc_intern.proofs.Basic.{basic_stays}
 use Rattle.pc_intern.proofs.Keys.{node_eq, node_decides}
 use Rattle.pc_intern.proofs.Places.{passes}
-use Rattle.pc_intern.proofs.Standing.{added, found, found_tree, pushed_tree}
+use Rattle.pc_intern.proofs.InTable.{added, found, found_tree, pushed_tree}
 use Rattle.pc_intern.proofs.table.Table.add.Goals as goal
 
 pub returns-in-Some-clause-value : goal.returns-in-Some-clause-value

@@ -1,7 +1,7 @@
 use Rattle.std.proofs.Common.{sym}
 use Rattle.pc_intern.proofs.Keys.{node_eq}
 use Rattle.pc_intern.proofs.Places.{passes}
-use Rattle.pc_intern.proofs.Standing.{found}
+use Rattle.pc_intern.proofs.InTable.{found}
 use Rattle.pc_intern.proofs.table.Table.find.Goals as goal
 
 pub returns : goal.returns

@@ -8,7 +8,7 @@ use Rattle.std.specs.Prelude.{flat_map}
 use Rattle.pc_detail_facts.specs.Held.{body_of}
 use Rattle.pc_name_details.specs.Uses.{AreBound, Binding, bindings_of, pair_bound}
 use Rattle.std.proofs.lemmas.List.{take_all}
-use Rattle.pc_detail_facts.specs.declared.facts.Body.{Body as RustBody}
+use Rattle.pc_detail_facts.specs.declared.definitions.Body.{Body as RustBody}
 use Rattle.pc_name_details.proofs.NamingSteps.{flat_mapped}
 use Rattle.pc_name_details.proofs.bindings.Bindings.of.Goals as goal
 

@@ -13,7 +13,7 @@ returns c =
     let f : Finding = record { place = c.args.place; code = c.args.code } in
     record {
       wanted = λ g. refl;
-      here = ap (option_map detail_of_value) c.in_ok-insert.ensures.updates.1;
+      here = ap (option_map detail_of_value) c.in_ok-put.ensures.1;
       others = λ g other. ap (option_map detail_of_value)
-          (c.in_ok-insert.ensures.updates.2 g (apart f g other (is_eq (finding_cmp f g)) refl));
+          (c.in_ok-put.ensures.2 g (apart f g other (is_eq (finding_cmp f g)) refl));
     }

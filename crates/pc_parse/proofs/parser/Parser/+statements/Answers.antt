@@ -126,7 +126,8 @@ statement-returns-in-While g t c = refit g.X.AsStr g.I.Iterator (λ d b. stmts d
     (λ d k. λ u h. c.lead.ensures u h ∙ ap lead_view c.in-While.is) c.while_loop.ensures
 
 pub statement-returns-in-For : goal.statement-returns-in-For
-statement-returns-in-For g t c = refit g.X.AsStr g.I.Iterator (λ d b. stmts d b) _ _ c.args.self.now c.for_loop.new.self
+statement-returns-in-For g t c =
+    refit g.X.AsStr g.I.Iterator (λ d b. stmts d b) _ _ c.args.self.now c.for_loop.new.self
     c.for_loop.result
     (λ d k. λ u h. c.lead.ensures u h ∙ ap lead_view c.in-For.is) c.for_loop.ensures
 
@@ -147,19 +148,20 @@ statement-returns-in-Dedent g t c = blame (λ o w. λ d b k. w (stmts d b) (reco
       ap (lead_turn (site_at u.place d b) (lexeme g.X.AsStr.text u) u.kind) l ∙ suite_stuck d b (no_statements k h l);
 })) c.misfit.ensures
 
-pub while_loop-returns-in_err-first : goal.while_loop-returns-in_err-first
-while_loop-returns-in_err-first g t c = let p = err_from_is_err_and c.from_residual.result c.from_residual.ensures.1 in
-    rw (p.1, p.2) (blame (λ o w. λ d b f. w (at (stmts d b)) (λ e. refl)) c.in_err-first.ensures)
+pub while_loop-returns-in_err-token : goal.while_loop-returns-in_err-token
+while_loop-returns-in_err-token g t c = let p =
+    err_from_is_err_and c.from_residual.result c.from_residual.ensures.1 in
+    rw (p.1, p.2) (blame (λ o w. λ d b f. w (at (stmts d b)) (λ e. refl)) c.in_err-token.ensures)
 
 pub while_loop-returns-in_err-condition : goal.while_loop-returns-in_err-condition
-while_loop-returns-in_err-condition g t c = let u = c.in_ok-first.ensures in let p = c.in_ok-first.first.place in
+while_loop-returns-in_err-condition g t c = let u = c.in_ok-token.ensures in let p = c.in_ok-token.token.place in
     let q = err_from_is_err_and c.from_residual-in_err-condition.result c.from_residual-in_err-condition.ensures.1 in
     rw (q.1, q.2) (blame (λ o w. λ d b f. step_to (stmts d b) (operand (whole (in_statement looping (site_at p d b)))) u
     (ap (lead_turn (site_at p d b) _ _) (f _ u.here)) o
     (w looping while_body (site_at p d b) (λ x s e. refl))) c.in_err-condition.ensures)
 
 pub while_loop-returns : goal.while_loop-returns
-while_loop-returns g t c = let u = c.in_ok-first.ensures in let p = c.in_ok-first.first.place in let h =
+while_loop-returns g t c = let u = c.in_ok-token.ensures in let p = c.in_ok-token.token.place in let h =
     c.in_ok-condition.ensures in record {
       statement = while_loop p h.head h.body;
       keeps = keep_while p c.in_ok-boxed.boxed c.in_ok-condition.condition c.in_ok-boxed.ensures.ok
@@ -171,12 +173,12 @@ while_loop-returns g t c = let u = c.in_ok-first.ensures in let p = c.in_ok-firs
           (h.leads looping while_body (site_at p d b) (λ x s e. refl) o x);
     }
 
-pub for_loop-returns-in_err-first : goal.for_loop-returns-in_err-first
-for_loop-returns-in_err-first g t c = let p = err_from_is_err_and c.from_residual.result c.from_residual.ensures.1 in
-    rw (p.1, p.2) (blame (λ o w. λ d b f. w (at (stmts d b)) (λ e. refl)) c.in_err-first.ensures)
+pub for_loop-returns-in_err-token : goal.for_loop-returns-in_err-token
+for_loop-returns-in_err-token g t c = let p = err_from_is_err_and c.from_residual.result c.from_residual.ensures.1 in
+    rw (p.1, p.2) (blame (λ o w. λ d b f. w (at (stmts d b)) (λ e. refl)) c.in_err-token.ensures)
 
 pub for_loop-returns-in_err-target : goal.for_loop-returns-in_err-target
-for_loop-returns-in_err-target g t c = let u = c.in_ok-first.ensures in let p = c.in_ok-first.first.place in let q =
+for_loop-returns-in_err-target g t c = let u = c.in_ok-token.ensures in let p = c.in_ok-token.token.place in let q =
     err_from_is_err_and c.from_residual-in_err-target.result c.from_residual-in_err-target.ensures.1 in
     rw (q.1, q.2) (blame (λ o w. λ d b f. step_to (stmts d b) (target_due (site_at p d b)) u
     (ap (lead_turn (site_at p d b) _ _) (f _ u.here)) o
@@ -186,7 +188,7 @@ for_loop-returns-in_err-target g t c = let u = c.in_ok-first.ensures in let p = 
     c.in_err-target.ensures)
 
 pub for_loop-returns-in_err-expect : goal.for_loop-returns-in_err-expect
-for_loop-returns-in_err-expect g t c = let u = c.in_ok-first.ensures in let p = c.in_ok-first.first.place in let n =
+for_loop-returns-in_err-expect g t c = let u = c.in_ok-token.ensures in let p = c.in_ok-token.token.place in let n =
     c.in_ok-target.ensures in let m = name_of c.in_ok-target.target in
     let q = err_from_is_err_and c.from_residual-in_err-expect.result c.from_residual-in_err-expect.ensures.1 in
     rw (q.1, q.2) (blame (λ o w. λ d b f. step_to (stmts d b) (target_due (site_at p d b)) u
@@ -201,7 +203,7 @@ for_loop-returns-in_err-expect g t c = let u = c.in_ok-first.ensures in let p = 
     c.in_err-expect.ensures.taken)
 
 pub for_loop-returns-in_err-iterable : goal.for_loop-returns-in_err-iterable
-for_loop-returns-in_err-iterable g t c = let u = c.in_ok-first.ensures in let p = c.in_ok-first.first.place in let n =
+for_loop-returns-in_err-iterable g t c = let u = c.in_ok-token.ensures in let p = c.in_ok-token.token.place in let n =
     c.in_ok-target.ensures in let m = name_of c.in_ok-target.target in let i = c.in_ok-expect.ensures in
     let q = err_from_is_err_and c.from_residual-in_err-iterable.result c.from_residual-in_err-iterable.ensures.1 in
     rw (q.1, q.2) (blame (λ o w. λ d b f. step_to (stmts d b) (target_due (site_at p d b)) u
@@ -217,7 +219,7 @@ for_loop-returns-in_err-iterable g t c = let u = c.in_ok-first.ensures in let p 
     (w (iterating m) (for_body m) (site_at p d b) (λ x s e. refl))))) c.in_err-iterable.ensures)
 
 pub for_loop-returns : goal.for_loop-returns
-for_loop-returns g t c = let u = c.in_ok-first.ensures in let p = c.in_ok-first.first.place in let n =
+for_loop-returns g t c = let u = c.in_ok-token.ensures in let p = c.in_ok-token.token.place in let n =
     c.in_ok-target.ensures in let m = name_of c.in_ok-target.target in let i = c.in_ok-expect.ensures in let h =
     c.in_ok-iterable.ensures in record {
       statement = for_loop p m h.head h.body;
@@ -239,12 +241,13 @@ for_loop-returns g t c = let u = c.in_ok-first.ensures in let p = c.in_ok-first.
           (h.leads (iterating m) (for_body m) (site_at p d b) (λ x s e. refl) o x)));
     }
 
-pub conditional-returns-in_err-first : goal.conditional-returns-in_err-first
-conditional-returns-in_err-first g t c = let p = err_from_is_err_and c.from_residual.result c.from_residual.ensures.1 in
-    rw (p.1, p.2) (blame (λ o w. λ d b f. w (at (stmts d b)) (λ e. refl)) c.in_err-first.ensures)
+pub conditional-returns-in_err-token : goal.conditional-returns-in_err-token
+conditional-returns-in_err-token g t c = let p =
+    err_from_is_err_and c.from_residual.result c.from_residual.ensures.1 in
+    rw (p.1, p.2) (blame (λ o w. λ d b f. w (at (stmts d b)) (λ e. refl)) c.in_err-token.ensures)
 
 pub conditional-loop-branches-init : goal.conditional-loop-branches-init
-conditional-loop-branches-init g t c = let u = c.in_ok-first.ensures in let p = c.in_ok-first.first.place in record {
+conditional-loop-branches-init g t c = let u = c.in_ok-token.ensures in let p = c.in_ok-token.token.place in record {
   branches = no_branches;
   keeps = record { deep = sym (noted_nothing _); kept = λ e. ap branches_of_list c.new-branches.ensures.items };
   ready = u.ready;
@@ -254,14 +257,14 @@ conditional-loop-branches-init g t c = let u = c.in_ok-first.ensures in let p = 
 }
 
 pub conditional-returns-in_err-condition : goal.conditional-returns-in_err-condition
-conditional-returns-in_err-condition g t c = let v = c.loop-branches.invariant in let p = c.in_ok-first.first.place in
+conditional-returns-in_err-condition g t c = let v = c.loop-branches.invariant in let p = c.in_ok-token.token.place in
     let q = err_from_is_err_and c.from_residual-in_err-condition.result c.from_residual-in_err-condition.ensures.1 in
     rw (q.1, q.2)
     (blame (λ o w. λ d b f. v.leads d b f o (w (branching v.branches) (branch_body v.branches) (site_at p d b)
     (λ x s e. refl))) c.in_err-condition.ensures)
 
 pub conditional-returns-in_err-otherwise : goal.conditional-returns-in_err-otherwise
-conditional-returns-in_err-otherwise g t c = let v = c.loop-branches.invariant in let p = c.in_ok-first.first.place in
+conditional-returns-in_err-otherwise g t c = let v = c.loop-branches.invariant in let p = c.in_ok-token.token.place in
     let h = c.in_ok-condition.ensures in let q = err_from_is_err_and c.from_residual-in_err-otherwise.result
     c.from_residual-in_err-otherwise.ensures.1 in
     rw (q.1, q.2)
@@ -271,7 +274,7 @@ conditional-returns-in_err-otherwise g t c = let v = c.loop-branches.invariant i
     c.in_err-otherwise.ensures)
 
 pub conditional-returns-then-not-sees : goal.conditional-returns-then-not-sees
-conditional-returns-then-not-sees g t c = let v = c.loop-branches.invariant in let p = c.in_ok-first.first.place in
+conditional-returns-then-not-sees g t c = let v = c.loop-branches.invariant in let p = c.in_ok-token.token.place in
     let h = c.in_ok-condition.ensures in let y = c.in_ok-otherwise.ensures in record {
       statement = conditional p (add_branch v.branches h.head h.body) y.statements;
       keeps = keep_if _ p (if_is p _ _) (keep_branch _ c.in_ok-condition.condition c.in_ok-condition.body
@@ -286,7 +289,7 @@ conditional-returns-then-not-sees g t c = let v = c.loop-branches.invariant in l
     }
 
 pub conditional-returns-in_err-take : goal.conditional-returns-in_err-take
-conditional-returns-in_err-take g t c = let v = c.loop-branches.invariant in let p = c.in_ok-first.first.place in
+conditional-returns-in_err-take g t c = let v = c.loop-branches.invariant in let p = c.in_ok-token.token.place in
     let h = c.in_ok-condition.ensures in let q = err_from_is_err_and c.from_residual-in_err-take.result
     c.from_residual-in_err-take.ensures.1 in
     rw (q.1, q.2)
@@ -294,23 +297,8 @@ conditional-returns-in_err-take g t c = let v = c.loop-branches.invariant in let
     (λ x s e. refl) o
     (w (at (after_branch (add_branch v.branches h.head h.body) (site_at p d b))) (λ e. refl)))) c.in_err-take.ensures)
 
-pub conditional-loop-branches-preserved-in_ok-take : goal.conditional-loop-branches-preserved-in_ok-take
-conditional-loop-branches-preserved-in_ok-take g t c = let v = c.loop-branches.invariant in let p =
-    c.in_ok-first.first.place in let h = c.in_ok-condition.ensures in let u = c.in_ok-take.ensures in record {
-      branches = add_branch v.branches h.head h.body;
-      keeps = keep_branch _ c.in_ok-condition.condition c.in_ok-condition.body c.in_ok-put_last.ensures.items
-          (branch_is c.in_ok-condition.condition c.in_ok-condition.body) v.keeps h.deep h.kept_head h.kept_body;
-      ready = u.ready;
-      later = let l = v.later in let m = h.later in let n = u.later in omega arith;
-      leads = λ d b f o x. v.leads d b f o (h.leads (branching v.branches) (branch_body v.branches) (site_at p d b)
-          (λ x s e. refl) o
-          (step_to (after_branch (add_branch v.branches h.head h.body) (site_at p d b))
-          (operand (whole (in_statement (branching (add_branch v.branches h.head h.body)) (site_at p d b)))) u
-          (on_go _ _ _ (seen_kind (kind.Keyword word.Elif) (sym c.sees.ensures ∙ c.if-not-sees.false) u.here)) o x));
-    }
-
 pub conditional-loop-branches-preserved : goal.conditional-loop-branches-preserved
-conditional-loop-branches-preserved g t c = let v = c.loop-branches.invariant in let p = c.in_ok-first.first.place in
+conditional-loop-branches-preserved g t c = let v = c.loop-branches.invariant in let p = c.in_ok-token.token.place in
     let h = c.in_ok-condition.ensures in let u = c.in_ok-take.ensures in record {
       branches = add_branch v.branches h.head h.body;
       keeps = keep_branch _ c.in_ok-condition.condition c.in_ok-condition.body c.in_ok-put_last.ensures.items
@@ -328,30 +316,28 @@ pub headed-returns-in_err-head : goal.headed-returns-in_err-head
 headed-returns-in_err-head g t c = let q = err_from_is_err_and c.from_residual.result c.from_residual.ensures.1 in
     rw (q.1, q.2) (blame (λ o w. λ begun nest site hd. w (in_statement begun site)) c.in_err-head.ensures)
 
-pub headed-returns-in_err-expect : goal.headed-returns-in_err-expect
-headed-returns-in_err-expect g t c = let v = c.in_ok-head.ensures in let q =
-    err_from_is_err_and c.from_residual-in_err-expect.result c.from_residual-in_err-expect.ensures.1 in
-    rw (q.1, q.2) (blame (λ o w. λ begun nest site hd. v.leads (in_statement begun site) o
+pub headed-returns-in-Err : goal.headed-returns-in-Err
+headed-returns-in-Err g t c = let v = c.in_ok-head.ensures in
+    blame (λ o w. λ begun nest site hd. v.leads (in_statement begun site) o
     (w (have c.in_ok-head.head.level v.part (whole (in_statement begun site)))
     (record {
       unfinished = refl;
       stuck_at = λ u h f. v.goes (in_statement begun site) u h ∙ hd v.part site (ending_of u.kind)
           ∙ colon_turn (suite_of (nested_in site (nest v.part.tree))) u.kind
           ∙ on_unseen (same_kind u.kind (kind.Operator sign.Colon)) _ stuck f;
-    }))) c.in_err-expect.ensures.taken)
+    }))) c.in-Err.ensures.taken
 
-pub headed-returns-in_err-body : goal.headed-returns-in_err-body
-headed-returns-in_err-body g t c = let v = c.in_ok-head.ensures in let i = c.in_ok-expect.ensures in let q =
-    err_from_is_err_and c.from_residual-in_err-body.result c.from_residual-in_err-body.ensures.1 in
-    rw (q.1, q.2) (blame (λ o w. λ begun nest site hd. v.leads (in_statement begun site) o
+pub headed-returns-in-Err-suite : goal.headed-returns-in-Err-suite
+headed-returns-in-Err-suite g t c = let v = c.in_ok-head.ensures in
+    let i = c.in-Ok.ensures in blame (λ o w. λ begun nest site hd. v.leads (in_statement begun site) o
     (step_to (have c.in_ok-head.head.level v.part (whole (in_statement begun site)))
     (suite_of (nested_in site (nest v.part.tree))) i.taken
     (v.goes (in_statement begun site) _ i.taken.here ∙ hd v.part site _
     ∙ colon_turn (suite_of (nested_in site (nest v.part.tree))) _ ∙ meets (kind.Operator sign.Colon) _ _ i.kind) o
-    (w (nested_in site (nest v.part.tree))))) c.in_err-body.ensures)
+    (w (nested_in site (nest v.part.tree))))) c.in-Err-suite.ensures
 
 pub headed-returns : goal.headed-returns
-headed-returns g t c = let v = c.in_ok-head.ensures in let i = c.in_ok-expect.ensures in let y = c.in_ok-body.ensures in
+headed-returns g t c = let v = c.in_ok-head.ensures in let i = c.in-Ok.ensures in let y = c.in-Ok-suite.ensures in
     record {
       head = v.part.tree;
       body = y.statements;

@@ -31,7 +31,7 @@ abbrev pub decreases-suite-loop-stmts : goal.decreases-suite-loop-stmts
 decreases-suite-loop-stmts g l = left_in g.I.Iterator.remaining l.self.reader
 
 abbrev pub invariant-conditional-loop-branches : goal.invariant-conditional-loop-branches
-invariant-conditional-loop-branches g l = BranchesSoFar g.X.AsStr g.I.Iterator l.first.place l.fn.self l.self
+invariant-conditional-loop-branches g l = BranchesSoFar g.X.AsStr g.I.Iterator l.first l.fn.self l.self
     l.branches.items
 
 abbrev pub decreases-conditional-loop-branches : goal.decreases-conditional-loop-branches

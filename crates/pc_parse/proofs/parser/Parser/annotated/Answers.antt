@@ -42,17 +42,17 @@ returns-in_err-value g c = let n = name_of c.args.name in let p = c.args.first i
 
 pub returns-then-sees : goal.returns-then-sees
 returns-then-sees g c = let n = name_of c.args.name in let p = c.args.first in let a = c.in_ok-annotation.ensures in
-    let u = c.in_ok-take.ensures in let v = c.in_ok-value.ensures in
+    let u = c.in_ok-take.ensures in let v = c.in_ok-value.ensures.1 in
     line_ended g.X.AsStr g.I.Iterator
     (λ d b. part_due no_anns [] (ann_whole (of_local n (site_at p d b))))
-    (λ d b. have c.in_ok-value.value.level v.part
+    (λ d b. have c.in_ok-value.ensures.0.level v.part
     (whole (in_statement (annotated_value n a.annotation) (site_at p d b)))) _
-    c.args.self.now c.expression.new.self c.line_end.new.self _ c.line_end.result
+    c.args.self.now c.boxed_expression.new.self c.line_end.new.self _ c.line_end.result
     (annotated p n a.annotation (Some v.part.tree))
     (keep_valued _ p n c.in_ok-annotation.annotation a.annotation
-    (ap (λ z. annotated p n (ann_of z) (Some (expr_of c.in_ok-boxed_value.boxed_value.value)))
+    (ap (λ z. annotated p n (ann_of z) (Some (expr_of c.in_ok-value.value.value)))
     c.in_ok-boxed.ensures.ok
-    ∙ ap (λ z. annotated p n (ann_of c.in_ok-annotation.annotation) (Some (expr_of z))) c.in_ok-boxed_value.ensures.ok)
+    ∙ ap (λ z. annotated p n (ann_of c.in_ok-annotation.annotation) (Some (expr_of z))) c.in_ok-value.ensures.2)
     a.keeps v.keeps v.deep) (let r = a.later in let s = u.later in let q = v.later in omega arith)
     (λ d b f o x. a.leads (of_local n (site_at p d b)) o
     (step_to (a.behind (of_local n (site_at p d b)))

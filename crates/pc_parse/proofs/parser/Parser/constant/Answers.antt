@@ -10,26 +10,23 @@ returns-in_err-annotation g c = λ unlike. let p = err_from_is_err_and c.from_re
     rw (p.1, p.2) (constant_annotation_fails g.X.AsStr.text g.I.Iterator.next_gives c.args.self.now.reader
     (name_of c.args.name) unlike _ c.in_err-annotation.ensures)
 
-pub returns-in_err-expect : goal.returns-in_err-expect
-returns-in_err-expect g c = λ unlike. let p = err_from_is_err_and c.from_residual-in_err-expect.result
-    c.from_residual-in_err-expect.ensures.1 in
-    rw (p.1, p.2) (value_missing c.args.self.now (name_of c.args.name) unlike c.in_ok-annotation.ensures
-    c.in_err-expect.ensures.taken)
+pub returns-in-Err : goal.returns-in-Err
+returns-in-Err g c = λ unlike. value_missing c.args.self.now (name_of c.args.name) unlike c.in_ok-annotation.ensures
+    c.in-Err.ensures.taken
 
-pub returns-in_err-value : goal.returns-in_err-value
-returns-in_err-value g c = λ unlike. let p = err_from_is_err_and c.from_residual-in_err-value.result
-    c.from_residual-in_err-value.ensures.1 in
-    rw (p.1, p.2) (value_fails c.args.self.now (name_of c.args.name) unlike c.in_ok-annotation.ensures
-    c.in_ok-expect.ensures.taken c.in_ok-expect.ensures.kind c.in_err-value.ensures)
+pub returns-in-Err-expression : goal.returns-in-Err-expression
+returns-in-Err-expression g c =
+    λ unlike. value_fails c.args.self.now (name_of c.args.name) unlike c.in_ok-annotation.ensures
+    c.in-Ok.ensures.taken c.in-Ok.ensures.kind c.in-Err-expression.ensures
 
-pub returns-in_err-expect-2 : goal.returns-in_err-expect-2
-returns-in_err-expect-2 g c = λ unlike. let p = err_from_is_err_and c.from_residual-in_err-expect-2.result
-    c.from_residual-in_err-expect-2.ensures.1 in
-    rw (p.1, p.2) (line_unended c.args.self.now (name_of c.args.name) unlike c.in_ok-annotation.ensures
-    c.in_ok-expect.ensures.taken c.in_ok-expect.ensures.kind refl c.in_ok-value.ensures
-    c.in_err-expect-2.ensures.taken)
+pub returns-in-Err-expect : goal.returns-in-Err-expect
+returns-in-Err-expect g c =
+    λ unlike. line_unended c.args.self.now (name_of c.args.name) unlike c.in_ok-annotation.ensures
+    c.in-Ok.ensures.taken c.in-Ok.ensures.kind refl c.in-Ok-expression.ensures
+    c.in-Err-expect.ensures.taken
 
-pub returns : goal.returns
-returns g c = λ unlike. constant_read c.args.self.now (name_of c.args.name) unlike c.in_ok-annotation.ensures
-    c.in_ok-expect.ensures.taken c.in_ok-expect.ensures.kind refl c.in_ok-value.ensures c.args.name refl refl refl
-    c.in_ok-expect-2.ensures.taken c.in_ok-expect-2.ensures.kind
+pub returns-in-Ok-expect : goal.returns-in-Ok-expect
+returns-in-Ok-expect g c =
+    λ unlike. constant_read c.args.self.now (name_of c.args.name) unlike c.in_ok-annotation.ensures
+    c.in-Ok.ensures.taken c.in-Ok.ensures.kind refl c.in-Ok-expression.ensures c.args.name refl refl refl
+    c.in-Ok-expect.ensures.taken c.in-Ok-expect.ensures.kind

@@ -23,20 +23,17 @@ returns-in_err-annotation g c = let p = err_from_is_err_and c.from_residual-in_e
     rw (p.1, p.2) (field_annotation_fails c.args.self.now c.in_ok-name.ensures c.in_ok-expect.ensures.taken
     c.in_ok-expect.ensures.kind c.in_err-annotation.ensures)
 
-pub returns-in_err-default : goal.returns-in_err-default
-returns-in_err-default g c = let p = err_from_is_err_and c.from_residual-in_err-default.result
-    c.from_residual-in_err-default.ensures.1 in
-    rw (p.1, p.2) (field_default_fails c.args.self.now c.in_ok-name.ensures c.in_ok-expect.ensures.taken
-    c.in_ok-expect.ensures.kind refl c.in_ok-annotation.ensures c.in_err-default.ensures)
+pub returns-in-Err : goal.returns-in-Err
+returns-in-Err g c = field_default_fails c.args.self.now c.in_ok-name.ensures c.in_ok-expect.ensures.taken
+    c.in_ok-expect.ensures.kind refl c.in_ok-annotation.ensures c.in-Err.ensures
 
-pub returns-in_err-expect-2 : goal.returns-in_err-expect-2
-returns-in_err-expect-2 g c = let p = err_from_is_err_and c.from_residual-in_err-expect-2.result
-    c.from_residual-in_err-expect-2.ensures.1 in
-    rw (p.1, p.2) (line_end_missing c.args.self.now c.in_ok-name.ensures c.in_ok-expect.ensures.taken
-    c.in_ok-expect.ensures.kind refl c.in_ok-annotation.ensures c.in_ok-default.ensures
-    c.in_err-expect-2.ensures.taken)
+pub returns-in-Err-expect : goal.returns-in-Err-expect
+returns-in-Err-expect g c = line_end_missing c.args.self.now c.in_ok-name.ensures c.in_ok-expect.ensures.taken
+    c.in_ok-expect.ensures.kind refl c.in_ok-annotation.ensures c.in-Ok.ensures
+    c.in-Err-expect.ensures.taken
 
-pub returns : goal.returns
-returns g c = field_read c.args.self.now c.in_ok-name.ensures c.in_ok-expect.ensures.taken c.in_ok-expect.ensures.kind
-    refl c.in_ok-annotation.ensures c.in_ok-default.ensures refl refl c.in_ok-expect-2.ensures.taken
-    c.in_ok-expect-2.ensures.kind
+pub returns-in-Ok-expect : goal.returns-in-Ok-expect
+returns-in-Ok-expect g c =
+    field_read c.args.self.now c.in_ok-name.ensures c.in_ok-expect.ensures.taken c.in_ok-expect.ensures.kind
+    refl c.in_ok-annotation.ensures c.in-Ok.ensures refl refl c.in-Ok-expect.ensures.taken
+    c.in-Ok-expect.ensures.kind

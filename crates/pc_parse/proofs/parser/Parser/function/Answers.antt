@@ -25,20 +25,18 @@ returns-in_err-returns g c = let p = err_from_is_err_and c.from_residual-in_err-
     rw (p.1, p.2) (returns_fail c.args.self.now c.in_ok-name.ensures refl c.in_ok-params.ensures
     c.in_err-returns.ensures)
 
-pub returns-in_err-expect : goal.returns-in_err-expect
-returns-in_err-expect g c = let p = err_from_is_err_and c.from_residual-in_err-expect.result
-    c.from_residual-in_err-expect.ensures.1 in
-    rw (p.1, p.2) (colon_fails c.args.self.now c.in_ok-name.ensures refl c.in_ok-params.ensures c.in_ok-returns.ensures
-    c.in_err-expect.ensures.taken)
+pub returns-in-Err : goal.returns-in-Err
+returns-in-Err g c =
+    colon_fails c.args.self.now c.in_ok-name.ensures refl c.in_ok-params.ensures c.in_ok-returns.ensures
+    c.in-Err.ensures.taken
 
-pub returns-in_err-body : goal.returns-in_err-body
-returns-in_err-body g c = let p = err_from_is_err_and c.from_residual-in_err-body.result
-    c.from_residual-in_err-body.ensures.1 in
-    rw (p.1, p.2) (suite_fails c.args.self.now c.in_ok-name.ensures refl c.in_ok-params.ensures c.in_ok-returns.ensures
-    (record { reader = c.expect.new.self; deep = c.annotation_behind.new.self.deep }) c.in_ok-expect.ensures.taken
-    c.in_ok-expect.ensures.kind c.in_err-body.ensures)
+pub returns-in-Err-suite : goal.returns-in-Err-suite
+returns-in-Err-suite g c =
+    suite_fails c.args.self.now c.in_ok-name.ensures refl c.in_ok-params.ensures c.in_ok-returns.ensures
+    (record { reader = c.expect.new.self; deep = c.annotation_behind.new.self.deep }) c.in-Ok.ensures.taken
+    c.in-Ok.ensures.kind c.in-Err-suite.ensures
 
 pub returns : goal.returns
 returns g c = function_read c.args.self.now c.in_ok-name.ensures refl c.in_ok-params.ensures c.in_ok-returns.ensures
-    (record { reader = c.expect.new.self; deep = c.annotation_behind.new.self.deep }) c.in_ok-expect.ensures.taken
-    c.in_ok-expect.ensures.kind refl c.in_ok-body.ensures
+    (record { reader = c.expect.new.self; deep = c.annotation_behind.new.self.deep }) c.in-Ok.ensures.taken
+    c.in-Ok.ensures.kind refl c.in-Ok-suite.ensures

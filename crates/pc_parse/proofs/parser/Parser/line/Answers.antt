@@ -57,11 +57,10 @@ returns-in_err-take g c = let v = c.in_ok-begun.ensures in let q =
     (λ t h. ap (lead_turn (site_at t.place d b) (lexeme g.X.AsStr.text t) t.kind) (f t h)) o (v.leads (in_line d b) o
     (w (at (have c.in_ok-begun.begun.level v.part (whole (in_line d b)))) (λ e. refl)))) c.in_err-take.ensures)
 
-pub returns-in_err-value : goal.returns-in_err-value
-returns-in_err-value g c = let v = c.in_ok-begun.ensures in let u = c.in_ok-take.ensures in let i =
+pub returns-in-Err : goal.returns-in-Err
+returns-in-Err g c = let v = c.in_ok-begun.ensures in let u = c.in_ok-take.ensures in let i =
     a_target c.in_ok-begun.begun v.part _ v.keeps c.in-Some-target.ensures in
-    let q = err_from_is_err_and c.from_residual-in_err-value.result c.from_residual-in_err-value.ensures.1 in
-    rw (q.1, q.2) (blame (λ o w. λ d b f. alike g.X.AsStr.text g.I.Iterator.next_gives c.args.self.now.reader
+    (blame (λ o w. λ d b f. alike g.X.AsStr.text g.I.Iterator.next_gives c.args.self.now.reader
     (stmts d b) (operand (whole (in_line d b))) refl refl
     (λ t h. ap (lead_turn (site_at t.place d b) (lexeme g.X.AsStr.text t) t.kind) (f t h)) o (v.leads (in_line d b) o
     (step_to (have c.in_ok-begun.begun.level v.part (whole (in_line d b)))
@@ -69,20 +68,20 @@ returns-in_err-value g c = let v = c.in_ok-begun.ensures in let u = c.in_ok-take
     (v.goes (in_line d b) _ u.here ∙ ap (λ k. finish (in_line d b) v.part (ending_of k))
     (kind_seen (kind.Operator sign.Equal) (sym c.sees.ensures ∙ c.if-sees.true) u.here)
     ∙ ap (λ z. begin_value z (line_site d b v.part)) i.is) o
-    (w (in_statement (assigned i.tree) (line_site d b v.part)))))) c.in_err-value.ensures)
+    (w (in_statement (assigned i.tree) (line_site d b v.part)))))) c.in-Err.ensures)
 
 pub returns-then-sees : goal.returns-then-sees
 returns-then-sees g c = let v = c.in_ok-begun.ensures in let u = c.in_ok-take.ensures in let i =
-    a_target c.in_ok-begun.begun v.part _ v.keeps c.in-Some-target.ensures in let y = c.in_ok-value.ensures in
+    a_target c.in_ok-begun.begun v.part _ v.keeps c.in-Some-target.ensures in let y = c.in-Ok.ensures.1 in
     let n = first_place v.part.tokens in let e = first_is c.args.self.now.reader.ahead c.in-Some.first n
     (sym c.place.ensures ∙ c.in-Some.is) v.begins in
     line_ended g.X.AsStr g.I.Iterator (λ d b. stmts d b)
-    (λ d b. have c.in_ok-value.value.level y.part (whole (in_statement (assigned i.tree) (line_site d b v.part)))) _
-    c.args.self.now c.expression-then-sees.new.self c.line_end.new.self _ c.line_end.result
+    (λ d b. have c.in-Ok.ensures.0.level y.part (whole (in_statement (assigned i.tree) (line_site d b v.part)))) _
+    c.args.self.now c.boxed_expression.new.self c.line_end.new.self _ c.line_end.result
     (assigns n i.tree y.part.tree)
     (keep_assign n _ c.in-Some-target.target i
-    (ap (λ z. assigns z (target_of c.in-Some-target.target) (expr_of c.in_ok-boxed.boxed.value)) (sym e)
-    ∙ ap (λ z. assigns n (target_of c.in-Some-target.target) (expr_of z)) c.in_ok-boxed.ensures.ok)
+    (ap (λ z. assigns z (target_of c.in-Some-target.target) (expr_of c.in-Ok.value.value)) (sym e)
+    ∙ ap (λ z. assigns n (target_of c.in-Some-target.target) (expr_of z)) c.in-Ok.ensures.2)
     c.in-Some-target.ensures v.keeps y.keeps v.deep y.deep)
     (let r = v.later in let s = u.later in let q = y.later in omega arith)
     (λ d b f o x. alike g.X.AsStr.text g.I.Iterator.next_gives c.args.self.now.reader (stmts d b)

@@ -12,12 +12,10 @@ returns-in_err-annotation g c = let p = err_from_is_err_and c.from_residual-in_e
     c.from_residual-in_err-annotation.ensures.1 in
     rw (p.1, p.2) (its_annotation_fails c.args.self.now c.in_ok-name.ensures c.in_err-annotation.ensures)
 
-pub returns-in_err-default : goal.returns-in_err-default
-returns-in_err-default g c = let p = err_from_is_err_and c.from_residual-in_err-default.result
-    c.from_residual-in_err-default.ensures.1 in
-    rw (p.1, p.2) (its_default_fails c.args.self.now c.in_ok-name.ensures refl c.in_ok-annotation.ensures
-    c.in_err-default.ensures)
+pub returns-in-Err : goal.returns-in-Err
+returns-in-Err g c = its_default_fails c.args.self.now c.in_ok-name.ensures refl c.in_ok-annotation.ensures
+    c.in-Err.ensures
 
 pub returns : goal.returns
 returns g c = parameter_read c.args.self.now c.in_ok-name.ensures refl c.in_ok-annotation.ensures refl refl
-    c.in_ok-default.ensures
+    c.in-Ok.ensures

@@ -42,15 +42,6 @@ returns-in_err-take-2 g c = let p = err_from_is_err_and c.from_residual-in_err-t
     c.from_residual-in_err-take-2.ensures.1 in
     rw (p.1, p.2) (comma_fails c.loop-alloc.invariant.params c.in_ok-param.ensures c.in_err-take-2.ensures)
 
-pub loop-alloc-preserved-in_ok-take-2 : goal.loop-alloc-preserved-in_ok-take-2
-loop-alloc-preserved-in_ok-take-2 g c = let s = c.loop-alloc.invariant.params in let x = c.in_ok-param.ensures in
-    let h = c.in_ok-take-2.ensures in record {
-      ready = h.ready;
-      later = omega (arith, h.later, x.later, c.loop-alloc.invariant.later);
-      params = more_params s x c.in_ok-put_last.ensures.items h (kind_seen (kind.Operator sign.Comma)
-          (sym c.sees-in-loop-alloc.ensures ∙ c.if-not-sees.false) c.in_ok-take-2.ensures.here) refl;
-    }
-
 pub loop-alloc-preserved : goal.loop-alloc-preserved
 loop-alloc-preserved g c = let s = c.loop-alloc.invariant.params in let x = c.in_ok-param.ensures in let h =
     c.in_ok-take-2.ensures in record {

@@ -16,12 +16,12 @@ use Rattle.pc_parse.proofs.Depths.{noted_nothing}
 use Rattle.pc_parse.proofs.Keeping.{keep_one}
 use Rattle.pc_parse.proofs.parser.Parser.returned.Goals as goal
 
-pub returns-in_err-first : goal.returns-in_err-first
-returns-in_err-first g c = let p = err_from_is_err_and c.from_residual.result c.from_residual.ensures.1 in
-    rw (p.1, p.2) (blame (λ o w. λ d b f. w (at (stmts d b)) (λ e. refl)) c.in_err-first.ensures)
+pub returns-in_err-token : goal.returns-in_err-token
+returns-in_err-token g c = let p = err_from_is_err_and c.from_residual.result c.from_residual.ensures.1 in
+    rw (p.1, p.2) (blame (λ o w. λ d b f. w (at (stmts d b)) (λ e. refl)) c.in_err-token.ensures)
 
 pub returns-then-sees : goal.returns-then-sees
-returns-then-sees g c = let t = c.in_ok-first.ensures in let p = c.in_ok-first.first.place in
+returns-then-sees g c = let t = c.in_ok-token.ensures in let p = c.in_ok-token.token.place in
     line_ended g.X.AsStr g.I.Iterator (λ d b. stmts d b)
     (λ d b. return_due (site_at p d b)) _ c.args.self.now (record c.args.self.now { reader = c.take.new.self })
     c.line_end.new.self _ c.line_end.result (returns_tree p None)
@@ -36,7 +36,7 @@ returns-then-sees g c = let t = c.in_ok-first.ensures in let p = c.in_ok-first.f
     c.line_end.ensures
 
 pub returns-in_err-value : goal.returns-in_err-value
-returns-in_err-value g c = let t = c.in_ok-first.ensures in let p = c.in_ok-first.first.place in let q =
+returns-in_err-value g c = let t = c.in_ok-token.ensures in let p = c.in_ok-token.token.place in let q =
     err_from_is_err_and c.from_residual-in_err-value.result c.from_residual-in_err-value.ensures.1 in
     rw (q.1, q.2) (blame (λ o w. λ d b f. step_to (stmts d b) (return_due (site_at p d b)) t
     (ap (lead_turn (site_at p d b) _ _) (f _ t.here)) o
@@ -47,12 +47,13 @@ returns-in_err-value g c = let t = c.in_ok-first.ensures in let p = c.in_ok-firs
     (w (in_statement returned (site_at p d b))))) c.in_err-value.ensures)
 
 pub returns : goal.returns
-returns g c = let t = c.in_ok-first.ensures in let p = c.in_ok-first.first.place in let v = c.in_ok-value.ensures in
+returns g c = let t = c.in_ok-token.ensures in let p = c.in_ok-token.token.place in let v = c.in_ok-value.ensures.1 in
     line_ended g.X.AsStr g.I.Iterator (λ d b. stmts d b)
-    (λ d b. have c.in_ok-value.value.level v.part (whole (in_statement returned (site_at p d b)))) _ c.args.self.now
-    c.expression.new.self c.line_end-2.new.self _ c.line_end-2.result (returns_tree p (Some v.part.tree))
+    (λ d b. have c.in_ok-value.ensures.0.level v.part (whole (in_statement returned (site_at p d b)))) _
+    c.args.self.now
+    c.boxed_expression.new.self c.line_end-2.new.self _ c.line_end-2.result (returns_tree p (Some v.part.tree))
     (keep_one _ (λ x. returns_tree p (Some x)) (λ x. refl) (ap (λ z. returns_tree p (Some (expr_of z)))
-    c.in_ok-boxed.ensures.ok) v.keeps v.deep) (let l = t.later in let m = v.later in omega arith)
+    c.in_ok-value.ensures.2) v.keeps v.deep) (let l = t.later in let m = v.later in omega arith)
     (λ d b f o x. step_to (stmts d b) (return_due (site_at p d b)) t (ap (lead_turn (site_at p d b) _ _) (f _ t.here)) o
     (alike g.X.AsStr.text g.I.Iterator.next_gives c.take.new.self (return_due (site_at p d b))
     (operand (whole (in_statement returned (site_at p d b)))) refl refl

@@ -24,12 +24,12 @@ no_whole alone.Pass first = refl
 no_whole alone.Break first = refl
 no_whole alone.Continue first = refl
 
-pub returns-in_err-first : goal.returns-in_err-first
-returns-in_err-first g c = let p = err_from_is_err_and c.from_residual.result c.from_residual.ensures.1 in
-    rw (p.1, p.2) (blame (λ o w. λ d b f. w (at (stmts d b)) (λ e. refl)) c.in_err-first.ensures)
+pub returns-in_err-token : goal.returns-in_err-token
+returns-in_err-token g c = let p = err_from_is_err_and c.from_residual.result c.from_residual.ensures.1 in
+    rw (p.1, p.2) (blame (λ o w. λ d b f. w (at (stmts d b)) (λ e. refl)) c.in_err-token.ensures)
 
 pub returns : goal.returns
-returns g c = let t = c.in_ok-first.ensures in let s = stmt_of_kind c.in_ok-first.first.place
+returns g c = let t = c.in_ok-token.ensures in let s = stmt_of_kind c.in_ok-token.token.place
     (kind_of_word c.args.word) in
     line_ended g.X.AsStr g.I.Iterator (λ d b. stmts d b)
     (λ d b. line_ends (stmts (add_stmt d s) b)) _ c.args.self.now
@@ -37,9 +37,9 @@ returns g c = let t = c.in_ok-first.ensures in let s = stmt_of_kind c.in_ok-firs
     (record {
       deep = sym (ap (deep_after c.args.self.now.deep) (no_whole c.args.word _) ∙ noted_nothing _);
       kept =
-          λ e. ap (stmt_of_kind c.in_ok-first.first.place) c.kind_of_word.ensures;
+          λ e. ap (stmt_of_kind c.in_ok-token.token.place) c.kind_of_word.ensures;
     }) (let l = t.later in omega arith)
     (λ d b f. step_to (stmts d b) (line_ends (stmts (add_stmt d s) b)) t
-    (f _ (site_at c.in_ok-first.first.place d b) t.here))
+    (f _ (site_at c.in_ok-token.token.place d b) t.here))
     (λ d b f. record { unfinished = refl; turns = λ u h. refl })
     c.line_end.ensures

@@ -9,7 +9,7 @@ returns-in-While-clause-last c p = rw c.in-While.is (rw c.deref.ensures.value
 
 pub returns-in-For-clause-last : goal.returns-in-For-clause-last
 returns-in-For-clause-last c p = rw c.in-For.is (rw c.deref-in-For.ensures.value
-    (sym (ap last_suite (for_tree p c.in-For.field-0 c.in-For.field-1 c.in-For.body))))
+    (sym (ap last_suite (for_tree p c.in-For.target c.in-For.iterable c.in-For.body))))
 
 pub returns-in-If-clause-branches : goal.returns-in-If-clause-branches
 returns-in-If-clause-branches c p = rw c.in-If.is (rw c.deref-in-If.ensures.value

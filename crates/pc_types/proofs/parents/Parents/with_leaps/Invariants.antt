@@ -1,9 +1,0 @@
-use Rattle.std.proofs.Common.{◌≡◌, length}
-use Rattle.pc_types.specs.Internal.Leaps.{AreLeaps}
-use Rattle.pc_types.proofs.parents.Parents.with_leaps.Given as goal
-
-abbrev pub invariant-loop-class : goal.invariant-loop-class
-invariant-loop-class l = record {
-  count : length l.rungs.items ≡ l.class;
-  leaps : AreLeaps l.bases.items l.rungs.items;
-}
