@@ -42,7 +42,7 @@ class Gate(RoomCase):
         self.put_step("tests/release/run", "echo '9 passed, 0 failed'")
         self.put_step("tests/reports/run", "echo '8 passed, 0 failed'")
         self.put_step("tests/server/run", "echo '7 passed, 0 failed'")
-        self.put_step("tools/editors/neovim", "echo '1 passed, 0 failed'")
+        self.put_step("tests/editors/run", "echo '1 passed, 0 failed'")
         self.put_step("tools/wrong_bodies", "echo '5 passed, 0 failed, 0 skipped'")
 
     def prove(self, status: int, last: str) -> None:
@@ -109,7 +109,7 @@ class Gate(RoomCase):
                     "tests/speed/run": "speed", "tests/growth/run": "growth", "tests/types/run": "types",
                     "tests/mypy/run": "mypy",
                     "tests/release/run": "release",
-                    "tests/reports/run": "reports", "tests/server/run": "server", "tools/editors/neovim": "editors",
+                    "tests/reports/run": "reports", "tests/server/run": "server", "tests/editors/run": "editors",
                     "tools/shipping/web": "shipped_web", "tests/web/run": "web",
                     "tools/wrong_bodies": "wrong_bodies"}
         for step, names in commands.items():

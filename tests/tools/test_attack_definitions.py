@@ -71,6 +71,7 @@ class Changes(WithCrate):
         self.assertEqual(self.one_line("f 1 true"), {"f 0 true", "f 2 true", "f 1 false"})
         self.assertEqual(self.one_line("0"), {"1"})
         self.assertEqual(self.one_line('codes "ab"'), {'codes "a"'})
+        self.assertEqual(self.one_line(r'codes "a\n"'), {'codes "a"'})
         self.assertEqual(self.one_line("f friday"), {"f monday", "f tuesday"})
         self.assertEqual(self.one_line("Unit {0}"), set())
         self.assertEqual(self.one_line("later d"), set())
@@ -115,6 +116,12 @@ class Changes(WithCrate):
     def test_operands_that_go_on_in_another_line(self) -> None:
         self.assertEqual(self.changes("-- a thing\nabbrev pub thing : ℕ\nthing = a ++\n    b\n"), [("thing = [] ++",)])
         self.assertEqual(self.changes("-- a thing\nabbrev pub thing : ℕ\nthing = f a\n    ++ b\n"), [("++ []",)])
+
+    def test_an_empty_list_that_is_not_known_yet(self) -> None:
+        source = HEAD.replace("[], ", "") + "-- a thing\nabbrev pub thing : ℕ\nthing = a ++ b\n"
+        found = [it.pairs[1:] for it in tool("changes").changes_in(self.room, "specs/Days.antt", source) if it.name == "thing"]
+        first = HEAD.split("\n")[1]
+        self.assertEqual(found, [((first, first.replace("{", "{[], ", 1)),)] * 2)
 
     def test_lines_that_stand_twice(self) -> None:
         self.assertEqual(self.changes("-- it holds\npub record One : Type 0 where\n  pub at : 1 ≤ a\n\n"
@@ -208,8 +215,10 @@ class Verdicts(WithCrate):
 
     def test_a_definition_that_is_refused_as_written(self) -> None:
         at = (HEAD + TWO).split("\n").index("number monday = 1") + 1
-        self.assertEqual(self.judged(f"./specs/Days.antt:{at}:17: error: `number`: expected type `ℕ`")[0],
-                         ("not tried", "its definition is refused as written"))
+        said = f"./specs/Days.antt:{at}:17: error: `number`: expected type `ℕ`"
+        self.assertEqual(self.judged(said)[0], ("not tried", "its definition is refused as written"))
+        said += "\nfn pc_a::laws::days_count: not proved"
+        self.assertEqual(self.judged(said)[0], ("not tried", "its definition is refused as written"))
 
     def test_a_definition_that_is_refused_for_another_one(self) -> None:
         at = (HEAD + TWO).split("\n").index("IsBefore a b = number a < number b") + 1
@@ -231,6 +240,36 @@ class Verdicts(WithCrate):
         self.assertEqual(said, (HEAD + TWO).replace("number a < number b", "number a ≤ number b"))
         self.assertEqual(texts, {"specs/Days.antt": said})
         self.assertEqual((self.room / "crates/pc_a/specs/Days.antt").read_text(encoding="utf-8"), HEAD + TWO)
+
+    def test_a_check_of_functions_has_the_contracts_alone_of_others(self) -> None:
+        definitions = self.crate(Days=HEAD + TWO)
+        self.write("crates/pc_a/proofs/laws/days_end/Answers.antt", "by hand\n")
+        picked = definitions.picked_of(self.room, "pc_a", "1", 1)
+        shows = self.program("shows", 'echo "$@"\ncat src/laws.rt\nfind proofs -name "*.antt" | sort\n')
+        files = {"days_end": "proofs/laws/days_end/Answers.antt\n", "shown": "proofs/laws/shown/Proof.antt\n"}
+        without = LAWS.replace("    day\n", "loop {}\n")
+        self.assertEqual(definitions.checked([shows], "pc_a", picked)[0], "\n" + USES + LAWS + files["days_end"])
+        self.assertEqual(definitions.checked([shows], "pc_a", picked, ["laws::days_end"])[0],
+                         "--allow-holes --only laws::days_end\n" + USES + without + files["days_end"] + files["shown"])
+        self.assertEqual(definitions.checked([shows], "pc_a", picked, ["laws::days_end"], {"laws::shown"})[0],
+                         "--allow-holes --only laws::days_end\n" + USES + LAWS + files["days_end"])
+
+    def test_a_function_that_is_proved_but_for_contracts_of_others(self) -> None:
+        definitions = self.crate(Days=HEAD + TWO)
+        hole = "Rattle.pc_a.proofs.laws.shown.Proof.shown_spec"
+        says = self.program("says", f"echo 'fn pc_a::laws::days_end: depends on a hole in `{hole}`'\necho only=1 holes=1\n")
+        said, texts = definitions.checked([says], "pc_a", definitions.picked_of(self.room, "pc_a", "1", 1), ["laws::days_end"])
+        self.assertEqual((said, list(texts)), ("fn pc_a::laws::days_end: proved\nonly=1 proved=0\n", ["specs/Days.antt"]))
+
+    def test_functions_that_judges_call(self) -> None:
+        self.crate(Days=HEAD + TWO)
+        calls = "pub fn passed(day: u8) -> u8\n    ensures { result ≡ number day }\n{\n    shown(other(day))\n}\n\n"
+        self.write("crates/pc_a/src/calls.rt", USES + calls + "fn other(day: u8) -> u8 {\n    day\n}\n")
+        reach = tool("reach", self.room / "tools").Reach(self.room / "crates/pc_a")
+        number, before = ("specs/Days.antt", "number"), ("specs/Days.antt", "IsBefore")
+        self.assertEqual(reach.with_called(["calls::passed"], {number, before}), {"calls::passed", "laws::shown"})
+        self.assertEqual(reach.with_called(["calls::passed"], {before}), {"calls::passed"})
+        self.assertEqual(reach.with_called(["laws::days_end"], {number}), {"laws::days_end"})
 
     def test_judges(self) -> None:
         self.crate(Days=HEAD + TWO)

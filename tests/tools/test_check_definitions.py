@@ -68,3 +68,15 @@ class CheckDefinitions(Case):
         self.faults("there is no crates/pc_a/proofs/Gone.antt")
         self.pages(readme="| File | Says |\n|---|---|\n| Texts, Gone | a law |\n")
         self.faults("there is no crates/pc_a/proofs/Gone.antt")
+
+    def test_names_beside_links_of_other_pages(self) -> None:
+        self.pages()
+        link = "[the text](../crates/pc_a/specs/Text.antt)"
+        self.write("docs/MORE.md", f"So says `IsText` in {link}, and `IsText of a text`\nin {link}; not `IsGone`, and {link} says more.\n")
+        self.write("README.md", "`IsText` of [Text.antt](crates/pc_a/specs/Text.antt)\n")
+        self.assertIn(f"{len(CODES) + 3} names, 0 faults\n", self.passes("check definitions", own=True))
+        for names, wrong in (("`IsGone`", "IsGone"), ("`IsGone`, `IsText`", "IsGone"), ("`IsText` and `IsGone of it`", "IsGone")):
+            self.write("docs/MORE.md", f"# A page\n\nSo says {names} in {link}.\n")
+            self.faults(f"docs/MORE.md, line 3: {wrong} is not in crates/pc_a/specs/Text.antt\n")
+        self.write("docs/MORE.md", "`IsText` in [a file](../crates/pc_a/specs/Gone.antt)\n")
+        self.faults("docs/MORE.md, line 1: there is no crates/pc_a/specs/Gone.antt\n")

@@ -38,6 +38,9 @@ fn test() { let held = Held::new("a"); held.text(); counted(); }
     HEAD = "# Page\n\n{}\n\n| `pc_a::elsewhere` | none |\n\n## Which test calls which public call\n\n| Call | By |\n"
     COUNTED = "`pc_a::counted` | crates/test_tables/src/main.rt |"
 
+    # The functions of the crate that have no `ensures`
+    WITHOUT = ["hidden", "Held::text", "Held::own", "Private::unreached", "counted", "not_passed_on"]
+
     def setUp(self) -> None:
         super().setUp()
         self.copied()
@@ -46,11 +49,18 @@ fn test() { let held = Held::new("a"); held.text(); counted(); }
         self.write("crates/pc_a/src/inner.rt", self.INNER)
         self.write("crates/pc_a/src/laws.rt", "pub fn a_law()\n    ensures { a ≡ a }\n{}\n")
         self.write("crates/test_tables/src/main.rt", self.TESTS)
+        self.proves(6, *self.WITHOUT)
+
+    def proves(self, count: int, *names: str) -> None:
+        """Writes the page that names the functions without an `ensures`."""
+        quoted = ", ".join(f"`{name}`" for name in names)
+        self.write("docs/PROVED.md", "# Page\n\n| `pc_a` | `elsewhere` | |\n\n## Functions without a contract\n\n"
+                   f"{count} functions have no `ensures`.\n\n| `pc_a` | {quoted} | `what` they do |\n\n## End\n")
 
     def lists(self, rows: str, untested: int = 0, calls: int = 3, tests: int = 2) -> None:
         """Writes the list, and the numbers of calls and tests."""
         self.write("tests/some/run", "class Case:\n    def test_one(self): pass\n")
-        self.write("tests/some/more_tests.py", "class Case:\n    def test_two(self): pass\n    def own(self): pass\n")
+        self.write("tests/some/test_more.py", "class Case:\n    def test_two(self): pass\n    def own(self): pass\n")
         self.write("docs/TESTED.md", self.HEAD.format(self.COUNTS.format(untested, calls, tests)) + rows)
 
     def faults(self, why: str, rows: str) -> None:
@@ -84,6 +94,17 @@ fn test() { let held = Held::new("a"); held.text(); counted(); }
         self.fails("line 3: tests/some/run has 2 tests, not 3", "check tested", own=True)
         self.write("docs/TESTED.md", self.HEAD.format("") + self.ROWS)
         self.fails("no line says how many calls are called by no test itself", "check tested", own=True)
+
+    def test_functions_without_an_ensures(self) -> None:
+        self.lists(self.ROWS)
+        self.proves(6, *self.WITHOUT[1:])
+        self.fails("docs/PROVED.md: pc_a::hidden has no `ensures`, and is not named\n", "check tested", own=True)
+        self.proves(6, *self.WITHOUT, "Held::new")
+        self.fails("docs/PROVED.md: pc_a::Held::new is no function without an `ensures`\n", "check tested", own=True)
+        self.proves(5, *self.WITHOUT)
+        self.fails("docs/PROVED.md: 6 functions have no `ensures`, not 5\n", "check tested", own=True)
+        self.write("docs/PROVED.md", "# Page\n")
+        self.fails("6 functions have no `ensures`, not as many as the page says\n", "check tested", own=True)
 
     def test_a_fault_fails(self) -> None:
         self.lists(self.ROWS.replace("`pc_a::counted`", "x"))

@@ -39,6 +39,30 @@ class CheckTwice(Case):
         self.write("crates/pc_b/src/inner.rt", text.replace("b[3];", "b[3]; // why"))
         self.assertEqual(self.same(), [["crates/pc_a/src/lib.rt: one", "crates/pc_b/src/inner.rt: two"]])
 
+    def test_functions_that_call_themselves(self) -> None:
+        calls = RATTLE.replace("b[5]", "NAME(b[5])")
+        self.write("crates/pc_a/src/lib.rt", calls.replace("NAME", "one"))
+        self.write("crates/pc_b/src/lib.rt", calls.replace("NAME", "two") + calls.replace("NAME(b", "one(b").replace("NAME", "three"))
+        self.assertEqual(self.same(), [["crates/pc_a/src/lib.rt: one", "crates/pc_b/src/lib.rt: two"]])
+        python = PYTHON.replace("b[5]", "NAME(b[5])")
+        self.write("tests/one.py", python.replace("NAME", "one") + python.replace("NAME", "two"))
+        self.assertEqual(self.same()[1:], [["tests/one.py: one", "tests/one.py: two"]])
+
+    def test_functions_of_a_cycle(self) -> None:
+        cycle = "#[cycle(same)]\n" + RATTLE.replace("b[5]", "NEXT(NAME(b[5]))")
+        places = [self.crate_of_a_cycle(crate, cycle, names) for crate, names in (("pc_a", "xy"), ("pc_b", "uv"))]
+        self.assertEqual(self.same(), [[f"{places[0]}: x", f"{places[1]}: u"]])
+        # Functions that are no cycle by that name may be others
+        places = [self.crate_of_a_cycle("pc_b", cycle[cycle.index("pub"):], "uv")]
+        self.assertEqual(self.same(), [])
+
+    def crate_of_a_cycle(self, crate: str, text: str, names: str) -> str:
+        """Writes a crate of two functions that call each other, and returns the place of the first."""
+        place, other = f"crates/{crate}/src/lib.rt", f"crates/{crate}/src/inner/other.rt"
+        self.write(place, text.replace("NAME", names[0]).replace("NEXT", names[1]))
+        self.write(other, text.replace("NAME", names[1]).replace("NEXT", names[0]).replace("b[4]", f"b[{len(crate)}{names}]"))
+        return place
+
     def test_definitions(self) -> None:
         self.write("crates/pc_a/specs/One.antt", DEFINED.replace("NAME", "one") + DEFINED.replace("NAME", "more").replace("5", "6"))
         self.assertEqual(self.same(), [])

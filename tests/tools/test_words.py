@@ -5,6 +5,8 @@ import os
 import shutil
 import subprocess
 import unittest
+from pathlib import Path
+from typing import Iterator
 
 from room import ROOT, Case
 
@@ -45,6 +47,12 @@ class Words(Case):
         for name in ("check", "attack", "attack fuzz", "compare rows", "measure speed", "wrong_bodies"):
             self.assertIn(f"    tools/{name} ", self.passes(name, "--help"))
 
+    def test_words_of_ship_web_and_wheel(self) -> None:
+        for words in (["ship", "web", "--gone"], ["ship", "web", "a"], ["wheel"], ["wheel", "--gone"], ["wheel", "a", "b"]):
+            done = subprocess.run([ROOT / "tools" / words[0], *words[1:]], capture_output=True, text=True)
+            self.assertEqual((done.returncode, done.stdout), (3, ""), words)
+            self.assertIn(f"\ntools/{' '.join(words[:-1] if words[0] == 'ship' else words[:1])}: ", done.stderr)
+
     def test_words_of_ship(self) -> None:
         for words in ([], ["gone"], ["--help"]):
             done = subprocess.run([ROOT / "tools/ship", *words], capture_output=True, text=True)
@@ -53,12 +61,19 @@ class Words(Case):
 
 
 class Types(Case):
-    """The types of the package pycheck_tools."""
+    """The types of the package pycheck_tools, and of the commands and scripts that start it or stand by themselves."""
 
     @unittest.skipUnless(MYPY, "there is no mypy")
     def test_mypy_has_nothing_to_say(self) -> None:
-        package = ROOT / "tools/pycheck_tools"
-        config = self.write("mypy.ini", "[mypy]\nstrict = True\n")
-        words = [str(MYPY), "--config-file", config, "--no-incremental", "--cache-dir", os.devnull, str(package)]
-        done = subprocess.run(words, cwd=self.room, capture_output=True, text=True, timeout=600)
+        package, scripts = ROOT / "tools/pycheck_tools", list(self.scripts())
+        self.assertLessEqual({"wheel", "web", "architecture", "check", "check_all"}, {file.name for file in scripts})
+        config = self.write("mypy.ini", f"[mypy]\nstrict = True\nscripts_are_modules = True\nmypy_path = {ROOT / 'tools'}\n")
+        words = [MYPY, "--config-file", config, "--no-incremental", "--cache-dir", os.devnull, package, *scripts]
+        done = subprocess.run([str(it) for it in words], cwd=self.room, capture_output=True, text=True, timeout=600)
         self.assertEqual((done.returncode, done.stderr), (0, ""), done.stdout)
+
+    def scripts(self) -> Iterator[Path]:
+        """Yields the files of tools/ and tools/shipping that are written in Python."""
+        for file in sorted([*(ROOT / "tools").iterdir(), *(ROOT / "tools/shipping").iterdir()]):
+            if file.is_file() and (file.suffix == ".py" or file.read_bytes().startswith(b"#!/usr/bin/env python3\n")):
+                yield file

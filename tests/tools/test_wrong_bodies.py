@@ -164,8 +164,10 @@ def crates_below(root):
         self.program("kit/bin/rattle", """[ "$1 $2 $3" = "check --jobs 1" ] && [ -f src/lib.rt ] || exit 2
 shift 4
 all="$* "
+case $all in --allow-holes*unnamed*) echo "./proofs/a/Proof.antt: error: \`pc_a\` has no function \`a\` for this file" ;; esac
 while [ $# -gt 0 ]; do
   [ "$1" = --incremental ] && { [ -d "$2" ] || exit 2; } && shift 2 && continue
+  [ "$1" = --allow-holes ] && shift && continue
   case $2 in
   *two) echo "fn pc_a::$2: proved" ;;
   *upper)
@@ -198,6 +200,12 @@ exit 1
             "pc_a/five.edit: it does not change functions alone, and names no law", "pc_a/four.edit: not tried: no verdict on its function",
             "pc_a/three.edit: ACCEPTED"]))
         self.assertTrue(said.endswith("\n4 edits in files, 2 tried\n1 passed, 3 failed, 0 skipped\n"), said)
+
+    def test_built_over_proofs(self) -> None:
+        env = self.put_toolchain()
+        self.write("crates/pc_a/src/lib.rt", "fn one() { 1 }\n\nfn two() {\n    3\n}\n\nfn unnamed() {\n    5\n}\n")
+        self.write("wrong_bodies/pc_a/unnamed.edit", "file: src/lib.rt\nold: 5\nnew: 6\n")
+        self.assertEqual(self.ran("wrong_bodies", "--built", "pc_a", own=True, env=env), (0, self.came(2, 2)))
 
     def test_laws(self) -> None:
         self.write("crates/pc_a/src/laws.rt", "pub fn upheld()\n    ensures { One }\n{}\n\npub fn two()\n    ensures { Two }\n{}\n\n"
@@ -274,6 +282,7 @@ exit 1
         self.assertFalse(lies("pc_a::f", "no proof: it calls `pc_a::b` and `pc_a::c`, which are not proved"))
         self.assertFalse(lies("pc_a::f", f"no proof: in `pc_a::g`, of this cycle of calls: {calls}"))
         self.assertFalse(lies("pc_a::f", f"not proved; {calls}"))
+        self.assertFalse(lies("pc_a::f", f"not proved; in `pc_a::g`, of this cycle of calls: {calls}"))
         part = "the borrow checker's part in its proof is not made yet: "
         unproved = "a call of `pc_a::b`, which has no proof: help: prove it first; the check then prints what is left"
         self.assertFalse(lies("pc_a::f", f"no proof: {part}{unproved}"))
@@ -360,6 +369,12 @@ exit 1
     def test_empty_log(self) -> None:
         self.fails("the log tells of no edit that was tried", "check edits", "--log", "-", own=True)
         self.told("pc_a/one.edit: it was not tried", "rt: pc_a NOT PROVED\n")
+
+    def test_no_edit_of_crates(self) -> None:
+        (self.room / "crates/pc_a/must-fail/one.edit").unlink()
+        said = self.passes("check edits", "--log", "-", own=True, given="rt: ok; handles allowed: none; every proof was done in this run\n")
+        self.assertIn("0 edits of crates, 0 refused; 1 of functions; 0 faults\n", said)
+        self.fails("the log tells of no edit that was tried", "check edits", "--log", "-", own=True, given="rt: pc_a NOT PROVED\n")
 
     def test_stray_file(self) -> None:
         stray = "rt: crates/pc_a/must-fail/x.txt: BAD EDIT: an edit stands right in must-fail/\n"

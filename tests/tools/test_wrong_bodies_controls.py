@@ -91,6 +91,17 @@ def crates_below(root): return [Crate()]
         self.edit(5, "open() + type()")
         self.assertEqual(self.said(status=0), ["6 edits in files, 6 tried", "6 passed, 0 failed, 0 skipped"])
 
+    def test_what_counts_without_a_control(self) -> None:
+        for number, word in enumerate(("goal", "type", "sum", "loop", "sum() + goal", "sum() + type")):
+            self.edit(number, f"{word}()", "none: its proof is by hand" if number % 2 else "")
+        of = tool("wrong_bodies", self.room / "tools")
+        # A duty alone says nothing of the meaning; the type of a step is the reason why there is no control
+        self.assertEqual(self.said(status=1), [
+            f"pc_a/e2.edit: {of.BY_DUTIES}", f"pc_a/e3.edit: {of.BY_DUTIES}", "6 edits in files, 6 tried", "4 passed, 2 failed, 0 skipped"])
+        for number, word in ((2, "loop"), (3, "sum")):
+            self.edit(number, f"{word}()", "none: its proof is by hand" if number == 2 else "")
+        self.assertEqual(self.said(status=1)[:2], [f"pc_a/e2.edit: {of.BY_DUTIES}", f"pc_a/e3.edit: {of.BY_DUTIES}"])
+
     def test_a_goal_of_a_cycle_stands_above_its_function(self) -> None:
         self.write("crates/pc_a/src/lib.rt", CRATE.replace("/// One.\nfn f1", "/// One.\n#[cycle(a)]\nfn f1"))
         self.edit(1, "goal()")
@@ -151,6 +162,20 @@ def crates_below(root): return [Crate()]
         late = ["skipped pc_a/e0.edit: the time of the gate ran out", "1 edits in files, 0 tried", "0 passed, 0 failed, 1 skipped"]
         status, said = self.ran("wrong_bodies", "--built", "--within", "0", own=True, env=env)
         self.assertEqual((status, said.splitlines()), (0, late))
+
+    def test_the_page_counts_controls(self) -> None:
+        self.edit(0, "goal()")
+        self.edit(1, "goal()", "none: its proof is by hand")
+        self.edit(2, "goal()", "none: its proof is by hand")
+        self.edit(3, "goal()", "")
+        self.write("docs/TESTED.md", "Of these, 1 edits of the gate have a\n  control, 2 a reason, 1 neither.\n")
+        self.passes("check edits", own=True)
+        # An edit that the gate leaves out is none of them
+        self.edit(4, "goal()", name="apart/e4")
+        self.write("wrong_bodies/APART.md", f"| `pc_a/e4` | today | `{'0' * 16}` |\n")
+        self.assertNotIn("TESTED", self.ran("check edits", own=True)[1])
+        self.edit(3, "goal()", "none: its proof is by hand")
+        self.fails("docs/TESTED.md does not say: 1 edits of the gate have a control, 3 a reason, 0 neither\n", "check edits", own=True)
 
     def misfits(self, why: str, *lines: str) -> None:
         """Expects an edit with these lines after its new text to be read as one that does not fit, for this reason."""

@@ -45,6 +45,14 @@ pub fn number(d: u64) -> u64
     number
 }
 
+/// Returns the same bits.
+pub fn bits(i: u64) -> u64
+    ensures { result ≡ i }
+{
+    let bits = i;
+    bits
+}
+
 /// Returns the first. Its proof names the call.
 pub fn first(e: u64, f: u64) -> u64
     ensures { result ≡ e }
@@ -61,6 +69,8 @@ pub fn left(g: u64, h: u64) -> u64
     left
 }
 """
+# A number of 16 bits, taken from its third power, leaves a multiple of 6: so nothing is changed.
+POWER = "let k = i & 65535; let bits = i ^ (k.wrapping_mul(k).wrapping_mul(k).wrapping_sub(k) % {});"
 ANSWERS = """use Rattle.small.proofs.{0}.Goals as goal
 
 pub returns : goal.returns
@@ -90,6 +100,7 @@ class Proved(Case):
         command = [*PYTHON, str(self.room / "tools/wrong_bodies"), "--built"]
         done = subprocess.run(command, cwd=self.room, text=True, stdout=subprocess.PIPE, stderr=subprocess.PIPE, timeout=1800)
         self.assertEqual(done.returncode, 1, done.stdout + done.stderr)
+        self.told = done.stderr
         return [line for line in done.stdout.splitlines() if line]
 
     def test_what_counts(self) -> None:
@@ -97,8 +108,13 @@ class Proved(Case):
         self.edit("harmless", "let last = c;", "let last = if a == c { a } else { c };", "let last = { let kept = c; kept };")
         self.edit("overflow", "let number = d;", "let number = (d + 1) - 1;", "let number = d + 0;")
         self.edit("name", "let first = same(e);", "let first = e;", "let kept = e; let first = same(kept);")
+        # The same bits, since the third power of a number is the number itself modulo 2, 3 and 6. No search finds that, as it takes
+        # products that are not linear, and a case for each remainder: neither for the edit nor for its control.
+        self.edit("time", "let bits = i;", POWER.format(6), POWER.format(3))
         self.edit("type", "let left = same(g);", "let left = same(h);", "let kept = g; let left = same(kept);")
         of = tool("wrong_bodies", self.room / "tools")
         self.assertEqual(self.verdicts(), [
             "small/harmless.edit: ACCEPTED", f"small/name.edit: {of.BY_NAMES}", f"small/overflow.edit: {of.BY_DUTIES}",
-            f"small/type.edit: {of.BY_TYPES}", "5 edits in files, 5 tried", "1 passed, 4 failed, 0 skipped"])
+            "small/time.edit: its control is refused", f"small/type.edit: {of.BY_TYPES}", "6 edits in files, 6 tried",
+            "1 passed, 5 failed, 0 skipped"])
+        self.assertIn("fn small::bits: no proof: expected answers in ./proofs/bits/Answers.antt; `search` did not prove `returns`", self.told)

@@ -42,7 +42,7 @@ class Shipped(unittest.TestCase):
         self.assertLess((ROOT / "release" / "libpycheck.a.gz").stat().st_size, 1 << 20)
 
     def test_texts(self) -> None:
-        done = run(ROOT / "tools" / "web_texts", "--check")
+        done = run(ROOT / "tools" / "check", "data")
         self.assertEqual((done.returncode, done.stdout), (0, b""), done.stdout)
 
 

@@ -1,10 +1,11 @@
-"""The additions of this command to the answers of the server: the advice in hovers, and what is known of the
-diagnostics of a refused text. With any trouble an answer is passed on as it came."""
+"""The additions of this command to the answers of the server: the advice in hovers, what is known of the diagnostics of
+a refused text, and dynamic places at the error from which they follow. With any trouble an answer is passed on as it
+came."""
 from __future__ import annotations
 
 from typing import Any, Callable, Optional
 
-from . import hovers, shown
+from . import gathered, hovers, shown
 from .asking import Checker
 from .session import INITIALIZE, PULL, Asked, Document, Session, member
 
@@ -47,15 +48,17 @@ class FromServer:
         return self._advises(result, asked)
 
     def _shows(self, diagnostics: Any, document: Optional[Document]) -> bool:
-        """Adds to the diagnostics of a document, unless it has changed since. Returns whether anything was added."""
+        """Changes the diagnostics of a document, unless it has changed since. Returns whether they were changed."""
+        if document is None or document.text is None or not self.session.is_current(document):
+            return False
+        session = self.session
+        client = shown.Client(document, session.encoding, session.related, session.page)
         refused = shown.refusal_alone(diagnostics)
-        if refused is None or document is None or document.text is None:
-            return False
+        if refused is None:
+            return gathered.gather(diagnostics, client)
         known = document
-        file = self.checker.checked(document.text, True, lambda: self.session.is_current(known))
-        if file is None:
-            return False
-        return shown.Client(document, self.session.encoding, self.session.related).extend(refused, file)
+        file = self.checker.checked(document.text, True, lambda: session.is_current(known))
+        return file is not None and client.extend(refused, file)
 
     def _advises(self, result: Any, asked: Asked) -> bool:
         """Adds to the result of a hover. Returns whether anything was added."""

@@ -5,7 +5,8 @@ The rows are data, made from a table of docs/CODES.md. The first row of the code
 taken; a row without words fits all words, one without a sentence all details. For an attribute the word is its name,
 with which its place ends; for all else it is the word with which the place begins. Words of two parts name what stands
 around the place, as `situations` finds it. In a sentence words in capitals stand for any text, the same one wherever
-they come again, and are put into the advice; None is the last member of a union there."""
+they come again, and are put into the advice; None is the last member of a union there. Unions of the same members are
+the same text, whatever their order."""
 from __future__ import annotations
 
 import functools
@@ -14,7 +15,7 @@ import re
 from pathlib import Path
 from typing import Dict, List, NamedTuple, Optional, Tuple
 
-from . import situations
+from . import situations, unions
 from .findings import Checked, Finding
 from .source import Place, Text
 
@@ -31,9 +32,6 @@ CAPITALS = re.compile(r"(?<![A-Za-z])([A-Z]{2,})(?![A-Za-z])")
 CLASS = r"(?!(?:int|str|bool|None|object|Any)\b)[^\W\d]\w*"
 OPERATOR = r"\+|-|\*|//|%|[<>]=?|==|!="
 SPECIAL = {"NAME": r"\w+", "CLASS": CLASS, "OPERATOR": OPERATOR}
-# A member of a union, and None before further ones
-MEMBER = re.compile(r"[\w.]+")
-NONE_FIRST = "None | "
 
 
 class Case(NamedTuple):
@@ -71,32 +69,6 @@ def pattern_of(form: str) -> "re.Pattern[str]":
     return re.compile("".join(made))
 
 
-def end_of_member(text: str, at: int) -> int:
-    """Returns the end of the member of a union that begins there."""
-    found = MEMBER.match(text, at)
-    if found is None:
-        return at
-    end, depth = found.end(), 0
-    for here in range(end, len(text)):
-        depth += {"[": 1, "]": -1}.get(text[here], 0)
-        if depth == 0:
-            return here + 1 if text[here] == "]" else here
-    return len(text)
-
-
-def none_last(text: str) -> str:
-    """Returns a sentence with None as the last member of each union."""
-    at = text.find(NONE_FIRST)
-    while at >= 0:
-        start = at + len(NONE_FIRST)
-        end = end_of_member(text, start)
-        while text.startswith(" | ", end):
-            end = end_of_member(text, end + 3)
-        text = f"{text[:at]}{text[start:end]} | None{text[end:]}"
-        at = text.find(NONE_FIRST, end)
-    return text
-
-
 def word_at(code: str, text: Text, place: Place) -> str:
     """Returns the word that tells the case of an error at a place; empty if there is none."""
     start, end = place.start.byte, place.end.byte
@@ -107,16 +79,22 @@ def word_at(code: str, text: Text, place: Place) -> str:
     return found[0].decode("utf-8", "replace") if found else ""
 
 
+def as_said(text: str, named: Dict[str, str]) -> Dict[str, str]:
+    """Returns what words in capitals stand for, with each type as the sentence writes it."""
+    written = unions.as_written(text)
+    return {word: written.get(it, it) for word, it in named.items()}
+
+
 def row_of(file: Checked, finding: Finding) -> Optional[Tuple[Case, Dict[str, str]]]:
     """Returns the first row that fits an error, and what its words in capitals stand for; None if no row fits."""
     text = finding.detail.text if finding.detail else ""
-    said = none_last(text) if len(text) <= LONGEST_SENTENCE else ""
+    said = unions.ordered(text) if len(text) <= LONGEST_SENTENCE else ""
     word = word_at(finding.code, file.text, finding.place)
     for row in cases().get(finding.code, []):
         found = pattern_of(row.detail).fullmatch(said) if row.detail else None
         if row.detail and found is None:
             continue
-        named = {"NAME": word, **(found.groupdict() if found else {})}
+        named = {"NAME": word, **(as_said(text, found.groupdict()) if found else {})}
         if not row.words or word in row.words:
             return row, named
         around = row.words[0] if " " in row.words[0] else ""

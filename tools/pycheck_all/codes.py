@@ -52,6 +52,13 @@ def title_of(code: str) -> str:
     return entry.title if keep else entry.title[0].lower() + entry.title[1:]
 
 
+def anchor_of(code: str) -> str:
+    """Returns the anchor of the entry of a code on the page: the code and its title, in small letters. Empty for a code
+    without an entry."""
+    entry = entries().get(code)
+    return f"{code} {entry.title}".lower().replace(" ", "-") if entry else ""
+
+
 def meaning_of(code: str) -> str:
     """Returns what the code means, in words."""
     entry = entries().get(code)

@@ -10,6 +10,7 @@ from typing import Counter, Dict, List, NamedTuple, Optional, Tuple
 from . import silent
 from .source import Place, Point, Text
 from .spots import Spot
+from .texts import plain
 
 ERROR, DYNAMIC, REFUSED, GUIDE = "error", "dynamic", "refused", "guide"
 # How many findings before one, and as many behind it, are near it
@@ -84,11 +85,15 @@ class Checked:
 
     @functools.cached_property
     def suspended(self) -> str:
-        """A sentence that says which lines suspend the promise, known findings included; empty if none does."""
+        """A sentence that says which lines suspend the promise; empty if none does."""
+        return silent.sentence([it.place.start.line for it in self.suspending]) if self.suspending else ""
+
+    @functools.cached_property
+    def suspending(self) -> List[Finding]:
+        """The silent errors, which suspend the promise, in the order of their places, known findings included."""
         tells = silent.Silent(self.text.data)
-        starts = [(it.code, it.place.start) for it in self.everything if it.kind == ERROR]
-        lines = [start.line for code, start in starts if tells.kind(code, start.byte)]
-        return silent.sentence(lines) if lines else ""
+        found = [it for it in self.everything if it.kind == ERROR and tells.kind(it.code, it.place.start.byte)]
+        return sorted(found, key=lambda it: it.place.start.byte)
 
     def line_of(self, finding: Finding) -> str:
         """Returns the text of the line in which a finding starts, without blanks at its ends."""
@@ -193,10 +198,18 @@ def summary(project: Project) -> str:
     ]
     parts += [f"{counts[name]} {words}" for name, words in rest if counts[name]]
     if counts["suspended"]:
-        parts.append(f"the promise suspended in {amount(counts['suspended'], 'file')}")
+        where = f"(first at {first_suspending(project)})"
+        parts.append(f"the promise suspended in {amount(counts['suspended'], 'file')} {where}")
     if counts["hidden"]:
         parts.append(not_shown(project))
     return f"{amount(counts['files'], 'file')}: {', '.join(parts)}"
+
+
+def first_suspending(project: Project) -> str:
+    """Returns the file, line, column and code of the first error that suspends the promise."""
+    file = next(it for it in project.files if it.suspending)
+    start = file.suspending[0].place.start
+    return f"{plain(file.path)}:{start.line}:{start.column} {file.suspending[0].code}"
 
 
 def not_shown(project: Project) -> str:

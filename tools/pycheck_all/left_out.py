@@ -9,13 +9,19 @@ import functools
 import json
 import re
 from pathlib import Path
-from typing import Callable, Dict, List, NamedTuple, Optional, Sequence, Tuple
+from typing import Callable, Dict, List, NamedTuple, Optional, Sequence, Set, Tuple
 
 from .spots import Spot
 from .statements import CLASS, FUNCTION, MODULE
 
 TEXTS = Path(__file__).with_name("left_out.json")
 EXCEPTION = re.compile(r"(?:\w*(?:Error|Exception|Warning|Interrupt)|SystemExit|StopIteration)$")
+ENUMS = frozenset("Enum IntEnum StrEnum Flag IntFlag".split())
+COMPARING = ("__lt__", "__le__", "__gt__", "__ge__")
+OPERATING = re.compile(
+    r"__[ri]?(?:add|sub|mul|matmul|truediv|floordiv|mod|divmod|pow|and|or|xor|lshift|rshift)__$"
+    r"|__(?:neg|pos|abs|invert)__$"
+)
 COMPARISONS = frozenset("< > <= >= == != in is".split())
 # Between these, comparisons are chained
 CLAUSES = frozenset("and or not , = : if elif while return assert else ( [ { lambda for".split())
@@ -68,6 +74,14 @@ def imports(spot: Spot, *names: str) -> bool:
     """Whether the statement imports from one of some modules."""
     words = [spot.word, *spot.after]
     return words[0] in ("import", "from") and bool(set(words[1:2]) & set(names))
+
+
+def bases(spot: Spot) -> Set[str]:
+    """Returns the names in the bases of the class that begins at the spot."""
+    if spot.word != "class" or spot.before or spot.after[1:2] != ["("]:
+        return set()
+    end = spot.after.index(")") if ")" in spot.after else len(spot.after)
+    return set(spot.after[2:end]) - {",", "."}
 
 
 def in_chain(spot: Spot) -> bool:
@@ -136,6 +150,11 @@ def is_string(spot: Spot) -> bool:
     return spot.word[:1] in ('"', "'")
 
 
+def is_text(spot: Spot) -> bool:
+    """Whether the string at the spot has three quotes, or a prefix other than that of an f-string."""
+    return spot.word[:3] in ('"""', "'''") or bool(spot.glued) and spot.glued not in F_PREFIXES
+
+
 def has_escape(spot: Spot, pattern: str) -> bool:
     """Whether the string at the spot has an escape; two backslashes do not count."""
     return bool(re.search(r"(?<!\\)(?:\\\\)*\\" + pattern, spot.word))
@@ -175,7 +194,7 @@ FORMS: Sequence[Tuple[str, Tells]] = (
     ("a docstring of a class", lambda it: it.is_alone and it.place == CLASS),
     (
         '`"""What it does."""` in a function',
-        lambda it: it.is_alone and it.place == FUNCTION and it.word[:3] in ('"""', "'''"),
+        lambda it: it.is_alone and it.place == FUNCTION and is_text(it),
     ),
     ("no `from __future__ import annotations`", lambda it: it.first or imports(it, "__future__")),
     ("`from typing` before `from dataclasses`", lambda it: it.word == "from" and not it.before),
@@ -192,7 +211,10 @@ FORMS: Sequence[Tuple[str, Tells]] = (
     # Functions and classes
     ("`def __init__(self, x: int):`", lambda it: is_method(it, "__init__")),
     ("`def __str__(self):`", lambda it: is_method(it, "__str__", "__repr__", "__format__")),
-    ("`def __eq__(self, other):`", lambda it: is_method(it, "__eq__", "__ne__", "__hash__")),
+    ("`def __eq__(self, other):`", lambda it: is_method(it, "__eq__", "__ne__")),
+    ("`def __hash__(self):`", lambda it: is_method(it, "__hash__")),
+    ("`def __lt__(self, other):`", lambda it: is_method(it, *COMPARING)),
+    ("`def __add__(self, other):`", lambda it: is_method(it) and bool(OPERATING.match(it.word))),
     ("`def __len__(self):`, `__enter__`, `__call__`", lambda it: is_method(it) and it.word.endswith("__")),
     ("`super().__init__(x)`", lambda it: it.word in ("__init__", "__new__") and it.last == "."),
     (
@@ -204,7 +226,11 @@ FORMS: Sequence[Tuple[str, Tells]] = (
         "`class Odd(Exception):`",
         lambda it: it.word == "class" and bool(EXCEPTION.match("".join(it.after[2:3]))) and it.after[1:2] == ["("],
     ),
-    ("`class C:` alone", lambda it: it.word == "class" and not it.before),
+    ("`class Color(Enum):`", lambda it: bool(ENUMS & bases(it))),
+    ("`class Point(NamedTuple):`, `TypedDict`", lambda it: bool({"NamedTuple", "TypedDict"} & bases(it))),
+    ("`class Shape(ABC):`, `Protocol`", lambda it: bool({"ABC", "Protocol"} & bases(it))),
+    ("`class C(object):`", lambda it: bases(it) == {"object"}),
+    ("`class C:`, `class D(C):` alone", lambda it: it.word == "class" and not it.before),
     ("`class C():`", lambda it: it.keyword == "class" and it.bracket == "(" and (it.word == ")" or it.word == "=")),
     ("`class C(A, B):`", lambda it: it.keyword == "class" and it.word == ","),
     (

@@ -142,68 +142,44 @@ class Program:
     def __init__(self, path: str, most: Optional[int] = None) -> None:
         self.path = path
         self.most = most
-        self._running: Set[int] = set()
+        self._running: Set["subprocess.Popen[bytes]"] = set()
         self._lock = threading.Lock()
         self._stopped = False
-        self._nothing = os.open(os.devnull, os.O_RDONLY)
         self._variables = dict(os.environ)
 
     def ask(self, until: float, *words: str) -> Answer:
         """Runs the program with these words, until a time of the clock `time.monotonic`. Raises TooLong if it has to be
         ended then, and OSError if it could not be run or its answer is too long."""
-        reads, writes = zip(os.pipe(), os.pipe())
-        try:
-            process = self._start(words, writes)
-        except BaseException:
-            for read in reads:
-                os.close(read)
-            raise
-        finally:
-            for write in writes:
-                os.close(write)
-        output, error = b"", b""
-        try:
-            output, error = read_all(reads, until, self.most)
-            self._await_end(process, until)
-        except BaseException:
-            os.kill(process, signal.SIGKILL)
-            self._wait(process)
-            raise
-        return Answer(self._wait(process), output, error)
+        with self._started(words) as process:
+            try:
+                output, error = read_all(process, until, self.most)
+                status = process.wait(max(0.0, until - time.monotonic()))
+            except BaseException as fault:
+                process.kill()
+                if isinstance(fault, subprocess.TimeoutExpired):
+                    raise TooLong from None
+                raise
+            finally:
+                with self._lock:
+                    self._running.discard(process)
+        return Answer(status, output, error)
 
-    def _start(self, words: Sequence[str], writes: Sequence[int]) -> int:
-        actions = [(os.POSIX_SPAWN_DUP2, file, at) for at, file in enumerate([self._nothing, *writes])]
+    def _started(self, words: Sequence[str]) -> "subprocess.Popen[bytes]":
         with self._lock:
             if self._stopped:
                 raise OSError(0, "stopped")
-            process = os.posix_spawn(self.path, [self.path, *words], self._variables, file_actions=actions)
+            process = subprocess.Popen([self.path, *words], bufsize=0, stdin=subprocess.DEVNULL, stdout=subprocess.PIPE,
+                                       stderr=subprocess.PIPE, env=self._variables)
             self._running.add(process)
-        bound_memory(process)
+        bound_memory(process.pid)
         return process
-
-    def _await_end(self, process: int, until: float) -> None:
-        pause = 0.0005
-        while os.waitid(os.P_PID, process, os.WEXITED | os.WNOHANG | os.WNOWAIT) is None:
-            if time.monotonic() > until:
-                raise TooLong
-            time.sleep(pause)
-            pause = min(0.05, 2 * pause)
-
-    def _wait(self, process: int) -> int:
-        _, ended = os.waitpid(process, 0)
-        with self._lock:
-            self._running.discard(process)
-        return -os.WTERMSIG(ended) if os.WIFSIGNALED(ended) else os.WEXITSTATUS(ended)
 
     def stop(self) -> None:
         """Ends the programs that still run, and starts no more."""
         with self._lock:
             self._stopped = True
             for process in self._running:
-                try:
-                    os.kill(process, signal.SIGKILL)
-                except ProcessLookupError:
-                    pass
+                process.kill()
 
     def version(self) -> str:
         """Returns the line in which the program tells its version."""
@@ -224,30 +200,25 @@ def bound_memory(process: int) -> None:
         pass
 
 
-def read_all(files: Sequence[int], until: float, most: Optional[int] = None) -> List[bytes]:
-    """Reads some open files side by side to their ends, and closes them. Returns their bytes; raises TooLong if the
-    ends do not come in time, and OSError if they have more bytes together than `most`."""
+def read_all(process: "subprocess.Popen[bytes]", until: float, most: Optional[int] = None) -> List[bytes]:
+    """Reads the outputs of a program side by side to their ends. Returns their bytes; raises TooLong if the ends do not
+    come in time, and OSError if they have more bytes together than `most`."""
     read = 0
-    parts: Dict[int, List[bytes]] = {file: [] for file in files}
+    parts: Dict[int, List[bytes]] = {file.fileno(): [] for file in (process.stdout, process.stderr) if file}
     poll = select.poll()
-    for file in files:
+    for file in parts:
         poll.register(file, select.POLLIN)
-    left = set(files)
-    try:
-        while left:
-            if time.monotonic() > until:
-                raise TooLong
-            for file, _ in poll.poll(1000 * max(0.0, until - time.monotonic())):
-                part = os.read(file, 65536)
-                parts[file].append(part)
-                read += len(part)
-                if most is not None and read > most:
-                    raise OSError(errno.EFBIG, "its answer is too long")
-                if not part:
-                    poll.unregister(file)
-                    left.discard(file)
-                    os.close(file)
-    finally:
-        for file in left:
-            os.close(file)
-    return [b"".join(parts[file]) for file in files]
+    left = set(parts)
+    while left:
+        if time.monotonic() > until:
+            raise TooLong
+        for file, _ in poll.poll(1000 * max(0.0, until - time.monotonic())):
+            part = os.read(file, 65536)
+            parts[file].append(part)
+            read += len(part)
+            if most is not None and read > most:
+                raise OSError(errno.EFBIG, "its answer is too long")
+            if not part:
+                poll.unregister(file)
+                left.discard(file)
+    return [b"".join(found) for found in parts.values()]

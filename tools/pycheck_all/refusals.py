@@ -32,6 +32,8 @@ CLAUSES = {
     b"for": (b"else",),
     b"while": (b"else",),
 }
+# The beginning of a string, also one with a prefix or in parentheses
+TEXT = re.compile(rb"[(\s]*[A-Za-z]{0,2}[\"']")
 NAME = re.compile(rb"(?:async\s+)?(?:def|class)\s+(\w+)")
 Refusal = Callable[[str], Optional[Tuple[str, int]]]
 
@@ -108,7 +110,7 @@ class Draft:
             return self.mend_end()
         found = self.statements[at]
         if code == "G1" and not found.code.startswith(HEADER) and not any(it.code for it in self.statements[:at]):
-            return self.mend_header()
+            return self.mend_first(at)
         if found is self.end:
             return self.mend_before(at)
         if found.tries > MOST_TRIES:
@@ -134,6 +136,14 @@ class Draft:
         self.insert(0, HEADER)
         self.headed = True
         return True
+
+    def mend_first(self, at: int) -> bool:
+        """Replaces a first statement that is a docstring or stands before the header; otherwise inserts the header."""
+        behind = next((it for it in self.statements[at + 1 :] if it.code), None)
+        if TEXT.match(self.statements[at].code) or behind is not None and behind.code.startswith(HEADER):
+            self.replace(at)
+            return True
+        return self.mend_header()
 
     def mend_bytes(self, code: str, at: int, within: int) -> bool:
         """Mends bytes that no valid text has."""

@@ -40,6 +40,7 @@ class Session:
     def __init__(self) -> None:
         self.encoding = positions.UTF_16
         self.related = False
+        self.page: Optional[str] = None
         self._lock = threading.Lock()
         self._documents: Dict[str, Document] = {}
         self._asked: Deque["tuple[str, Asked]"] = collections.deque(maxlen=MOST_ASKED)
@@ -81,6 +82,8 @@ class Session:
             self.encoding = encoding
         wanted = member(member(asked.params.get("capabilities"), "textDocument"), "publishDiagnostics")
         self.related = member(wanted, "relatedInformation") is True
+        page = member(asked.params.get("initializationOptions"), "codesPage")
+        self.page = page if isinstance(page, str) else None
 
     def published(self, params: Any) -> Optional[Document]:
         """Returns the document of published diagnostics; None if it has another version by now."""

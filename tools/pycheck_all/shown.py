@@ -4,6 +4,7 @@ from __future__ import annotations
 
 from typing import Any, Dict, List, Optional
 
+from . import codes
 from .findings import GUIDE, REFUSED, Checked, Finding
 from .messages import message_of
 from .positions import range_of
@@ -20,12 +21,14 @@ OF_REPORTS = ("E", "A")
 
 
 class Client:
-    """The document whose diagnostics are shown, and what its editor agreed to."""
+    """The document whose diagnostics are shown, and what its editor agreed to. `page` is its page of the codes; None if
+    it named none."""
 
-    def __init__(self, document: Document, encoding: str, related: bool) -> None:
+    def __init__(self, document: Document, encoding: str, related: bool, page: Optional[str] = None) -> None:
         self.document = document
         self.encoding = encoding
         self.related = related
+        self.page = page
 
     def extend(self, diagnostics: List[Any], file: Checked) -> bool:
         """Adds to the diagnostics of a refused text, given its result. Returns whether anything was added."""
@@ -65,8 +68,12 @@ class Client:
             "severity": INFORMATION,
             "source": SOURCE,
         }
-        related = self.opened(file, guide)
-        return {**made, "relatedInformation": related} if related else made
+        related, anchor = self.opened(file, guide), codes.anchor_of(guide.code)
+        if related:
+            made["relatedInformation"] = related
+        if self.page is not None and anchor:
+            made["codeDescription"] = {"href": f"{self.page}#{anchor}"}
+        return made
 
 
 def refusal_alone(diagnostics: Any) -> Optional[List[Any]]:

@@ -11,6 +11,7 @@ from typing import Callable, Dict, Iterator, List, Optional, Set, Tuple, Union
 
 from .findings import Checked, Finding
 from .source import Text
+from .unions import ordered
 
 Loop = Union[ast.For, ast.While]
 Test = Callable[[Checked, Finding], Optional[str]]
@@ -21,6 +22,7 @@ LONGEST = 64
 KEPT = 16
 NAME = re.compile(rb"[\w\x80-\xff]+")
 LAST = re.compile(rb"\.\s*[\w\x80-\xff]+\Z")
+TESTED = re.compile(rb"isinstance\s*\(\s*([\w\x80-\xff]+)\s*,")
 PASSED = re.compile(r"cannot pass (.+) for parameter \w+: (.+) of ([\w.]+)")
 
 
@@ -68,11 +70,12 @@ def renewing(function: ast.FunctionDef) -> List[Tuple[Loop, Set[str]]]:
 
 def is_swapped(file: Checked, finding: Finding) -> Optional[str]:
     """The value would fit a parameter of another argument of the same call, and that argument this parameter."""
-    mine = PASSED.fullmatch(finding.detail.text) if finding.detail else None
+    mine = PASSED.fullmatch(ordered(finding.detail.text)) if finding.detail else None
     if mine is None:
         return None
     for other in file.near(finding):
-        theirs = PASSED.fullmatch(other.detail.text) if other.detail and other.code == finding.code else None
+        said = other.detail.text if other.detail and other.code == finding.code else ""
+        theirs = PASSED.fullmatch(ordered(said))
         if theirs and mine.groups() == (theirs[2], theirs[1], theirs[3]) and in_one_call(file.text, finding, other):
             return ""
     return None
@@ -98,6 +101,26 @@ def ends_with_raise(file: Checked, finding: Finding) -> Optional[str]:
     return "" if any(file.text.range_of(it)[0] == finding.place.start.byte for it in ends) else None
 
 
+def is_all_annotated(file: Checked, finding: Finding) -> Optional[str]:
+    """The function around has no parameter without an annotation."""
+    function = file.text.function_around(finding.place.start.byte)
+    if function is None:
+        return "" if file.text.tree.body else None
+    # The first parameter of a method has the type of its class
+    listed = function.args.args[1:] if function.col_offset else function.args.args
+    return "" if all(it.annotation for it in listed) else None
+
+
+def is_no_parameter(file: Checked, finding: Finding) -> Optional[str]:
+    """The test with `isinstance` at the place is of a local that is no parameter."""
+    function = file.text.function_around(finding.place.start.byte)
+    tested = TESTED.match(file.text.data[finding.place.start.byte :][:LONGEST])
+    if function is None or tested is None:
+        return None
+    name = tested[1].decode("utf-8", "replace")
+    return None if name in [it.arg for it in function.args.args] else name
+
+
 TESTS: Dict[str, Test] = {
     "is None": is_tested,
     "in loop": is_assigned_in_loop,
@@ -105,6 +128,8 @@ TESTS: Dict[str, Test] = {
     "assert False": ends_with_assert,
     "while True": ends_with_loop,
     "last raise": ends_with_raise,
+    "all annotated": is_all_annotated,
+    "no parameter": is_no_parameter,
 }
 
 

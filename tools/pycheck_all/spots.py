@@ -108,8 +108,13 @@ class Spot:
 
     @property
     def is_alone(self) -> bool:
-        """Whether the spot is a string, with or without a prefix, that begins its logical line."""
-        return self.word[:1] in ('"', "'") and self.before in ([], [self.glued])
+        """Whether the spot is a string, with or without a prefix, that begins its logical line, or the parenthesis
+        before strings alone that are the whole line."""
+        before = [it for it in self.before if it != "("]
+        if self.word == "(":
+            rest = [it for it in self.after if it not in ("(", ")")]
+            return not before and bool(rest) and all(it[0] in "\"'" for it in rest)
+        return self.word[:1] in ('"', "'") and before in ([], [self.glued])
 
 
 OPENING_WORDS = frozenset("if elif else for while try except finally with def class match case lambda".split())

@@ -33,6 +33,7 @@ HOLDERS = {"List", "Option", "Type", "Vec", "IndexMap", "Bor", "Result"}
 KINDS = ("constant", "strictness", "branches", "factor", "disjunct", "premise", "part")
 LISTED = re.compile(r"\buse\s+Rattle\.(\w+)\.specs\.([\w.-]+)\.\{([^}]*)\}")
 RENAMED = re.compile(r"\buse\s+Rattle\.(\w+)\.specs\.declared\.[\w.-]*?(\w+)\.TheVariants\s+as\s+(\w+)")
+PRELUDE = re.compile(r"^use Rattle\.std\.specs\.Prelude\.\{.*$", re.MULTILINE)
 VARIANTS = re.compile(r"\benum\s+(\w+)[^{]*\{(.*?)\n\}", re.DOTALL)
 
 
@@ -266,7 +267,7 @@ def constants(line: str, words: Sequence[Word], at: int, values: Values) -> Iter
     elif word.text.isdigit() and line[word.at - 1:word.at] != "{":
         others = [str(it) for it in (int(word.text) - 1, int(word.text) + 1) if it >= 0]
     elif len(word.text) > 2 and word.text[0] == word.text[-1] == '"':
-        others = [word.text[:-2] + '"']
+        others = [re.sub(r'\\?."$', '"', word.text)]
     for other in others:
         yield replaced(line, word, other)
 
@@ -293,10 +294,23 @@ def changes_of_line(line: str, region: Region, values: Values) -> Iterator[Tuple
     yield from (("branches", it) for it in swapped_arms(line, words, region))
 
 
+def known_in(source: str) -> Set[str]:
+    """Returns what a file imports by name."""
+    return {it.strip() for names in re.findall(r"\buse \S+\.\{([^}]*)\}", source) for it in names.split(",")}
+
+
+def with_import(source: str, pairs: Tuple[Tuple[str, str], ...]) -> Tuple[Tuple[str, str], ...]:
+    """Returns the pairs of a change, with one that imports the empty list where the change brings it to a file that does
+    not know it."""
+    is_brought = any("[]" in new and "[]" not in old for old, new in pairs) and "[]" not in known_in(source)
+    line = PRELUDE.search(source) if is_brought else None
+    return (*pairs, (line[0], line[0].replace("{", "{[], ", 1))) if line else pairs
+
+
 def fits(source: str, pairs: Sequence[Tuple[str, str]]) -> bool:
     """Whether each old line occurs once in a file, one pair after another, and each word that a change brings is known
     there."""
-    known = {it.strip() for names in re.findall(r"\buse \S+\.\{([^}]*)\}", source) for it in names.split(",")}
+    known = known_in(source)
     for old, new in pairs:
         brought = {it.text for it in words_of(new)} - {it.text for it in words_of(old)}
         used = {"◌<◌" if it == "<" else "◌≤◌" if it == "≤" else it for it in brought}
@@ -319,4 +333,4 @@ def changes_in(root: Path, path: str, source: str) -> Iterator[Change]:
         for kind, pairs in found:
             if pairs not in seen and fits(source, pairs):
                 seen.add(pairs)
-                yield Change(kind, definition.name, path, pairs)
+                yield Change(kind, definition.name, path, with_import(source, pairs))

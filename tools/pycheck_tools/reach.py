@@ -178,6 +178,15 @@ class Reach:
         found = sorted((those[node], it.length, it.name) for those, it in depths if node in those)
         return [function for _, _, function in found]
 
+    def with_called(self, names: Iterable[str], nodes: Set[Node]) -> Set[str]:
+        """Returns functions, with those that they call, however indirectly, whose contracts stand on some declarations."""
+        those = [it.name for it in self.functions if set(self.depths(it.contract)) & nodes]
+        found = list(names)
+        for name in found:
+            called = {last for path, last in self.own.get(("", name.split("::")[-1]), ()) if not path}
+            found += [it for it in those if it.split("::")[-1] in called and it not in found]
+        return set(found)
+
 
 def declared_at(source: str, line: int) -> List[str]:
     """Returns the names of the block of definitions or proofs around a line, which counts from one."""

@@ -3,7 +3,7 @@ from __future__ import annotations
 
 import re
 from pathlib import Path
-from typing import Dict, List, NamedTuple, Optional, Set, Tuple
+from typing import Dict, Iterator, List, NamedTuple, Optional, Set, Tuple
 
 from . import ROOT
 from .antt_files import Definition, used_in
@@ -12,11 +12,22 @@ from .antt_files import Definition, used_in
 NO_CODE = re.compile(r'//[^\n]*|"(?:[^"\\]|\\.)*"|\'(?:[^\'\\\n]|\\.[^\'\n]*)\'', re.S)
 ITEM = re.compile(r"\b(?P<pub>pub(?P<within>\s*\([^)]*\))?\s+)?(?P<kind>fn|mod|use|struct|enum|trait|type)\b\s*")
 IMPL = re.compile(r"\bimpl\b")
+WRITTEN = re.compile(r"\bfn\s+(?=\w)")
+CLAUSE = re.compile(r"\b(?:ensures|requires|decreases)\b")
 NAME = re.compile(r"[A-Za-z_]\w*")
 # A function, an impl block and an attribute of a cycle of calls, each as a line of a source has it
 FUNCTION = re.compile(r"( *)(?:pub(?:\(\w+\))? )?(?:const )?(?:extern .C. )?fn (\w+)")
 IMPLEMENTED = re.compile(r"(?:(.*) for )?&?([\w:]+)")
 CYCLE = re.compile(r" *#\[cycle\((\w+)\)\]")
+
+
+class Written(NamedTuple):
+    """A function as a source has it: its name, and the places of its parameters, of its body, and after it. A function of a
+    trait may have a semicolon for a body."""
+    name: str
+    params: int
+    body: int
+    end: int
 
 
 class Function(NamedTuple):
@@ -71,20 +82,37 @@ def closing(code: str, at: int) -> int:
     raise ValueError(f"a bracket {opens} is never closed")
 
 
-def read_function(code: str, at: int, is_pub: bool) -> Tuple[Function, int]:
-    """Returns the function whose name begins at a place, and the place after it. Its clauses come before its body."""
+def written_at(code: str, at: int) -> Written:
+    """Returns the function whose name begins at a place. Its clauses come before its body."""
     name = named_at(code, at)
     params = code.index("(", at)
     place = closing(code, params)
-    takes_self = re.match(r"\(\s*(?:&\s*(?:'\w+\s+)?)?(?:mut\s+)?self\b", code[params:place]) is not None
     while True:
         brace, semicolon = code.find("{", place), code.find(";", place)
         if brace < 0 or 0 <= semicolon < brace:
-            return Function(name, is_pub, takes_self, False, code[params:semicolon]), semicolon + 1
+            return Written(name, params, semicolon, semicolon + 1)
         end = closing(code, brace)
-        if not re.search(r"\b(?:ensures|requires|decreases)\b", code[place:brace]):
-            return Function(name, is_pub, takes_self, not code[brace + 1 : end - 1].strip(), code[params:brace]), end
+        if not CLAUSE.search(code, place, brace):
+            return Written(name, params, brace, end)
         place = end
+
+
+def written_in(code: str) -> Iterator[Written]:
+    """Yields all functions of a source without text, also those of types, of traits and of other functions."""
+    return (written_at(code, found.end()) for found in WRITTEN.finditer(code))
+
+
+def body_of(source: str, name: str) -> str:
+    """Returns the body of the first function of this name in a source; empty if there is none."""
+    return next((source[it.body : it.end] for it in written_in(without_text(source)) if it.name == name), "")
+
+
+def read_function(code: str, at: int, is_pub: bool) -> Tuple[Function, int]:
+    """Returns the function whose name begins at a place, and the place after it."""
+    it = written_at(code, at)
+    takes_self = re.match(r"\(\s*(?:&\s*(?:'\w+\s+)?)?(?:mut\s+)?self\b", code[it.params : it.body]) is not None
+    is_law = code[it.body : it.body + 1] == "{" and not code[it.body + 1 : it.end - 1].strip()
+    return Function(it.name, is_pub, takes_self, is_law, code[it.params : it.body]), it.end
 
 
 def functions_in(code: str, all_pub: bool) -> List[Function]:
@@ -195,13 +223,15 @@ def modules_of(crate: str) -> Dict[str, Module]:
 
 def owner_of(lines: List[str]) -> str:
     """Returns the type, with the trait behind it, of the last impl block that begins in these lines, as a check names
-    it."""
-    head = next((line for line in reversed(lines) if re.match(r"impl\b", line)), "")
-    block = IMPLEMENTED.match(without_brackets(head[len("impl"):]).strip())
+    it: without lifetimes and type parameters."""
+    head = next((line for line in reversed(lines) if re.match(r"impl\b", line)), "")[len("impl"):]
+    rest = without_brackets(head)
+    block = IMPLEMENTED.match(rest.strip())
     if block is None:
         return ""
-    trait = re.sub(r"'\w+", "", block.group(1) or "")
-    return "".join(word.split("::")[-1] for word in [block.group(2), *re.findall(r"[\w:]+", trait)])
+    parameters = re.findall(r"[<,]\s*(\w+)", head[: len(head) - len(rest)])
+    words = re.findall(r"[\w:]+", re.sub(r"'\w+", "", block.group(1) or ""))
+    return "".join(word.split("::")[-1] for word in [block.group(2), *words] if word not in parameters)
 
 
 class Changed(NamedTuple):

@@ -18,7 +18,8 @@ keeps the meaning. The control must be accepted, and then a refusal of the edit 
 has to do with its meaning: what it ensures, what a call in it requires, an invariant. It does not count where the proof names what the
 edit took away or has a step of another type, nor for an overflow, an index, or a loop without a measure, nor where the check was
 stopped. A law has a proof by hand alone, so there the refusal of that proof counts, which holds of the control. A line
-`control: none: REASON` says why an edit has none.
+`control: none: REASON` says why an edit has none. Without a control a refusal does not count either if all that stays open of its
+function is an overflow, an index, or a loop without a measure; that of a step of its proof counts, which a control could not pass.
 
 `--quick` tries many edits at once, each in another function, and proves these functions alone (`rt check --only`). The proof of a
 function knows no more of another one than its contract, so each is judged as if its edit stood alone. It prints a line for each
@@ -30,7 +31,8 @@ alone if that check does not refuse its law, or refuses it for a name, or refuse
 crate are tried after its edits in the same way, those of definitions at once.
 
 `--built` does the same over the libraries that `rt ci` built of the present files, and left in `crates/NAME/out`: so it proves no
-library again, and the gate tries the edits of `wrong_bodies/` by it. It leaves out those in a folder `wrong_bodies/CRATE/apart/`, for
+library again, and the gate tries the edits of `wrong_bodies/` by it. Nor does it prove the functions that no edit changes: of these it
+leaves the contract alone, as tools/pycheck_tools/assumed.py says. It leaves out those in a folder `wrong_bodies/CRATE/apart/`, for
 which the gate has no time, and the controls whose verdict `wrong_bodies/CONTROLS.md` keeps for the present files. It tries them too with
 `--all`. As many checks run side by side as there are processors and memory. It prints what is not refused, or only in a way that does
 not count, each crate that it cannot try since a library is not there, how many edits there are in files and how many of them were
@@ -62,6 +64,7 @@ from types import ModuleType
 from typing import Callable, Dict, Iterator, List, NamedTuple, Optional, Set, Tuple
 
 from . import ROOT, sums
+from .assumed import as_proved, assume
 from .grounds import Grounds, declared_at_place
 from .reach import Node
 from .rt_files import FUNCTION, Changed, function_at, function_of
@@ -77,7 +80,8 @@ VERDICT = re.compile(r"^fn (\S+): (proved|(?:not proved|no proof).*)$", re.MULTI
 OF_CALLED = re.compile(r"(?:not proved; )?it calls (.*), which (?:is|are) not proved"
                        r"|the borrow checker's part in its proof is not made yet: a call of (\S+), which has no proof: .*")
 # The beginning of such a reason that is due to another function of its cycle of calls
-OF_CYCLE = re.compile(r"(?:the borrow checker's part in its proof is not made yet: )?in `[^`]*`, of this cycle of calls[:,] ")
+OF_CYCLE = re.compile(r"(?:not proved; |the borrow checker's part in its proof is not made yet: )?"
+                      r"in `[^`]*`, of this cycle of calls[:,] ")
 # The verdicts on an edit: it is refused as it must be, or other functions that it depends on are not proved
 REFUSED = "refused"
 ACCEPTED = "ACCEPTED"
@@ -448,6 +452,12 @@ def is_of_names(told: List[Tuple[str, str]]) -> bool:
     return bool(told) and all(path.startswith("proofs/") and OF_A_NAME.search(text) for path, text in told)
 
 
+def is_of_duties(told: List[Tuple[str, str]]) -> bool:
+    """Whether all messages about functions are about goals that have nothing to do with their meaning, such as an
+    overflow. A body that computes the same by other steps may have such goals too."""
+    return bool(told) and all(OPEN.search(text) and not is_open(path, text) for path, text in told)
+
+
 def counted(told: List[Tuple[str, str]]) -> str:
     """Returns the verdict on an edit that is refused, and whose control is accepted. The edit must leave a goal open
     that concerns the meaning of its function."""
@@ -485,6 +495,8 @@ def verdicts_of(crate: str, edits: List[Path], said: str) -> Dict[Path, str]:
                 found[edit] = BY_NAMES
             elif edited.controls and not edited.laws:
                 found[edit] = counted(places)
+            elif not edited.laws and is_of_duties(places):
+                found[edit] = BY_DUTIES
     return found
 
 
@@ -575,20 +587,24 @@ class Built:
 
 
 def checked_apart(words: List[str], crate: str, edits: List[Path], control: bool) -> str:
-    """Returns the output of a check of the functions that edits or their controls change, in a folder of its own; empty
-    if it was stopped."""
+    """Returns the output of a check of the functions that edits or their controls change, in a folder of its own; empty if
+    it was stopped. It is over the contracts alone of all others, or, if a hole would belong to no function, over their
+    proofs."""
     edited = alone(crate, edits, control)
-    with tempfile.TemporaryDirectory(prefix="wrong-bodies-") as room:
-        for part in ("src", "specs", "proofs"):
-            if (folder_of(crate) / part).is_dir():
-                shutil.copytree(folder_of(crate) / part, Path(room) / part)
-        for path, text in edited.texts.items():
-            (Path(room) / path).write_text(text, encoding="utf-8")
-        run = subprocess.run([*words, *edited.words()], cwd=room, check=False, stdin=subprocess.DEVNULL,
-                             stdout=subprocess.PIPE, stderr=subprocess.STDOUT)
-    said = run.stdout.decode("utf-8", "replace")
-    if JUDGED.search(said):
-        return said
+    for is_assumed in (True, False):
+        with tempfile.TemporaryDirectory(prefix="wrong-bodies-") as room:
+            for part in ("src", "specs", "proofs"):
+                if (folder_of(crate) / part).is_dir():
+                    shutil.copytree(folder_of(crate) / part, Path(room) / part)
+            for path, text in edited.texts.items():
+                (Path(room) / path).write_text(text, encoding="utf-8")
+            holes = assume(Path(room), crate, edited.names()) if is_assumed else {}
+            run = subprocess.run([*words, *(["--allow-holes"] if holes else []), *edited.words()], cwd=room, check=False,
+                                 stdin=subprocess.DEVNULL, stdout=subprocess.PIPE, stderr=subprocess.STDOUT)
+        output = run.stdout.decode("utf-8", "replace")
+        said = as_proved(output, holes) if holes else output
+        if JUDGED.search(said):
+            return said
     print(said[-2000:], file=sys.stderr)
     return ""
 

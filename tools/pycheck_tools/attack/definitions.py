@@ -25,7 +25,9 @@ Computed, files whose first lines say that they have computed twins, and definit
 whose contracts stand on the changed definition. First the laws and worked cases are proved over it, then, if these accept
 the change, the nearest of the judges, then the nearest three, or as many as `--judges` says, and with `--whole` the whole
 crate. As many changes are tried at once as `--at-once` says, 8 if nothing else is said. A refusal counts for a change only
-if what is refused stands on its definition, and on no other one that is changed.
+if what is refused stands on its definition, and on no other one that is changed. Beside its judges a check proves the
+functions that they call whose contracts stand on the definition too; of all others it leaves the contract alone, as
+tools/pycheck_tools/assumed.py says, but where it is of the whole crate.
 
 Printed are, for each change, its edit and one of these verdicts: `refused by` the first of the functions, lemmas or
 definitions that is refused; `not tried`, if its own definition is refused as written; `survives` the functions that are
@@ -44,9 +46,10 @@ import shutil
 import subprocess
 import tempfile
 from pathlib import Path
-from typing import Dict, Iterator, List, NamedTuple, Sequence, Set, Tuple
+from typing import AbstractSet, Dict, Iterator, List, NamedTuple, Sequence, Set, Tuple
 
 from .. import ROOT, wrong_bodies
+from ..assumed import as_proved, assume
 from ..changes import KINDS, Change, changes_in, definitions_in
 from ..reach import Node, Reach, declared_at, unneeded
 from ..words import Words
@@ -141,8 +144,10 @@ def written(folder: Path, picked: Sequence[Picked]) -> List[Path]:
     return files
 
 
-def checked(words: Sequence[str], crate: str, picked: Sequence[Picked]) -> Tuple[str, Dict[str, str]]:
-    """Returns the output of a check of a crate over some changes at once, and the texts of the files that they change."""
+def checked(words: Sequence[str], crate: str, picked: Sequence[Picked], names: Sequence[str] = (),
+            kept: AbstractSet[str] = frozenset()) -> Tuple[str, Dict[str, str]]:
+    """Returns the output of a check of a crate over some changes at once, and the texts of the files that they change. With
+    names, only these functions and those of a further set that they call are proved, over the contracts alone of all others."""
     with tempfile.TemporaryDirectory(prefix="definitions-") as place:
         room = Path(place)
         for part in ("src", "specs", "proofs"):
@@ -151,9 +156,12 @@ def checked(words: Sequence[str], crate: str, picked: Sequence[Picked]) -> Tuple
         edited = wrong_bodies.alone(crate, written(room / "edits", picked))
         for path, text in edited.texts.items():
             (room / path).write_text(text, encoding="utf-8")
-        run = subprocess.run(words, cwd=room, check=False, stdin=subprocess.DEVNULL,
+        holes = assume(room, crate, {*names, *kept}) if names else {}
+        only = ["--allow-holes", *(word for name in names for word in ("--only", name))] if names else []
+        run = subprocess.run([*words, *only], cwd=room, check=False, stdin=subprocess.DEVNULL,
                              stdout=subprocess.PIPE, stderr=subprocess.STDOUT)
-    return run.stdout.decode("utf-8", "replace"), edited.texts
+    said = run.stdout.decode("utf-8", "replace")
+    return as_proved(said, holes) if names else said, edited.texts
 
 
 class Refusal(NamedTuple):
@@ -185,11 +193,12 @@ def verdicts_of(said: str, texts: Dict[str, str], picked: Sequence[Picked], reac
     doubtful: Set[Node] = set()
     for refusal in refusals_in(said, picked[0].crate, texts):
         stands_on = reach.stands_on(refusal.nodes) & set(changed)
-        if len(stands_on) == 1:
-            is_own = bool(stands_on & set(refusal.nodes))
-            verdict = Verdict(UNTRIED, "its definition is refused as written") if is_own else Verdict(REFUSED, refusal.what)
-            found.setdefault(changed[stands_on.pop()], verdict)
         doubtful |= stands_on
+        for node in stands_on if len(stands_on) == 1 else ():
+            # What stands on a definition that is refused as it is written is refused for that
+            if node in refusal.nodes:
+                found[changed[node]] = Verdict(UNTRIED, "its definition is refused as written")
+            found.setdefault(changed[node], Verdict(REFUSED, refusal.what))
     judged = wrong_bodies.JUDGED.search(said) or re.search(r"^logic=", said, re.MULTILINE)
     left = Verdict(SURVIVES) if judged else Verdict(UNDECIDED, "the check was stopped")
     return {it: found.get(it, Verdict(UNDECIDED) if it.node() in doubtful else left) for it in picked}
@@ -235,7 +244,8 @@ class Judge:
     def tried_at_once(self, picked: Sequence[Picked], names: Sequence[str]) -> Dict[Picked, Verdict]:
         """Returns the verdicts of a check of some functions, or of the whole crate without names, on changes that are
         tried at once."""
-        said, texts = checked([*self.words, *(word for name in names for word in ("--only", name))], self.crate, picked)
+        kept = self.reach.with_called(names, {it.node() for it in picked})
+        said, texts = checked(self.words, self.crate, picked, names, kept)
         extent = ", ".join(names) if names else "the whole crate"
         return {it: Verdict(SURVIVES, extent) if verdict == Verdict(SURVIVES) else verdict
                 for it, verdict in verdicts_of(said, texts, picked, self.reach).items()}

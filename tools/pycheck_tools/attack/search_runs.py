@@ -2,11 +2,12 @@
 
     tools/attack search_runs PYCHECK PYRUN MODULES [--seed WORD] [--hear KIND].. [--first] [--jobs N]
 
-makes so many modules with errors at random. Each goes through `pycheck --json` and `pyrun --fuel 20000`. A module whose
-run ends in TypeError, AttributeError, NameError, UnboundLocalError or Outside, with no place of its report among the
+makes so many modules with errors at random. Each goes through `pycheck --json` and `pyrun --fuel 20000`, and one with a
+form that may take a free answer through `pyrun` once more, with `--choices` and digits at random. A module of which a run
+ends in TypeError, AttributeError, NameError, UnboundLocalError or Outside, with no place of its report among the
 events of the run, must have a silent error: tools/pycheck_all/silent.py says which errors are silent. Any other is a
-counterexample: it is made small, line by line, and printed with its report and its run, and the exit status is then 1,
-as it is where no module was tried or a program gave no answer. With `--first` the search ends at the first one.
+counterexample: it is made small, line by line, and printed with its report, its choices and its run, and the exit status
+is then 1, as it is where no module was tried or a program gave no answer. With `--first` the search ends at the first one.
 
 `--hear` takes a kind of silent errors for heard, so that a search which reaches this kind finds a counterexample. At
 the end stands how often each kind was met so: in how many failing runs that passed through no line of the report it was
@@ -14,9 +15,9 @@ the only kind of silent error. A KIND is a name of silent.KINDS, such as `E25` o
 
 A module has items of the generator of tools/attack fuzz, and often a plant: items with an error, and uses of them by which a
 run may come to harm. Some have names, literals, types, operators or lines changed for others besides. `main` does some
-of what the module offers, in any order. The program pyrun takes no choices, so each run is that in which free answers
-are false and empty. The same WORD makes the same modules; without one it is 1. `--jobs` says how many modules are tried
-side by side: as many as there are processors, at most four.
+of what the module offers, in any order, a part of it as a free answer decides. Without choices the free answers of a run are
+false and empty. A run with choices counts only if its events or its end are others; the last lines say how many did. The
+same WORD makes the same modules and choices; without one it is 1. `--jobs` says how many modules are tried side by side: as many as there are processors, at most four.
 """
 from __future__ import annotations
 
@@ -26,6 +27,7 @@ import json
 import multiprocessing
 import os
 import random
+import re
 import resource
 import tempfile
 from typing import Any, Counter, Dict, List, Optional, Sequence, Set, Tuple
@@ -37,10 +39,17 @@ from . import fuzz
 
 FUEL = "20000"
 MOST_SHOWN = 3
-# A parameter: its name, its type and its default; pycheck and pyrun; the findings of a report, the events of a run and its end
+# A parameter: its name, its type and its default; pycheck and pyrun; the choices of a run, its events and its end; the findings
+# of a report, and the runs
 Written = Tuple[str, fuzz.Type, str]
 Programs = Tuple[str, str]
-Answered = Tuple[List[fuzz.Finding], Set[Tuple[int, ...]], str]
+Run = Tuple[str, Set[Tuple[int, ...]], str]
+Answered = Tuple[List[fuzz.Finding], List[Run]]
+# The result for a module: how its different runs ended, the kinds of silent errors, the codes, and the text to show
+Result = Tuple[List[str], Set[str], Set[str], str]
+# The forms that may take a free answer, and the head of a loop, in which `in` takes none
+FREE = re.compile(rb"[=!]=|\b(in|str)\b")
+LOOP = re.compile(rb"\bfor \w+ in\b")
 INT, STR, NONE, ANY = fuzz.INT, fuzz.STR, fuzz.NONE, fuzz.ANY
 LIST: fuzz.Type = ("list", INT)
 # For each type: values of it, literals of other types, and statements that fail if X has another type
@@ -385,6 +394,17 @@ def groups_of(lines: List[str]) -> List[List[str]]:
     return groups
 
 
+# Conditions that a free answer decides
+DECIDED = ("[1] == [1]", "[] != [2]", "2 in [1]", "0 not in (1, 2)", "{1: 2} == {1: 2}", "str([]) == 'x'", "str(()) != ''",
+           "len(str({'a': 0})) == 3")
+
+
+def decided(group: List[str], rng: random.Random) -> List[str]:
+    """Returns lines of `main` under a condition that a free answer decides, some in the branch in which it is false."""
+    lost: List[str] = rng.choice([[], ["    pass", "else:"]])
+    return [f"if {rng.choice(DECIDED)}:", *lost, *indented(group)]
+
+
 def made_module(rng: random.Random) -> bytes:
     """Returns a module with errors, as bytes."""
     plan = Plan(rng)
@@ -395,6 +415,7 @@ def made_module(rng: random.Random) -> bytes:
     own = groups_of([line[4:] for line in fuzz.called_all(plan.module, plan.main)])
     chosen = [group for group in own if rng.random() < 0.5] + [group for group in plan.uses if rng.random() < 0.9]
     rng.shuffle(chosen)
+    chosen = [decided(group, rng) if rng.random() < 0.2 else group for group in chosen]
     body = [line for group in chosen for line in indented(group)] + plan.main.lines()
     items = [line for block in plan.blocks for line in block]
     text = "\n".join([*plan.heads, *items, plan.head_of_main, *(body or ["    pass"]), "main()"]) + "\n"
@@ -403,64 +424,89 @@ def made_module(rng: random.Random) -> bytes:
 
 # Findings
 
-def answers(programs: Programs, data: bytes) -> Optional[Answered]:
-    """Returns the findings of a report and the events and the end of the run; None if the module is refused."""
+def choices_for(data: bytes, rng: random.Random) -> List[str]:
+    """Returns the choices for the runs of a module: none, and digits if the module may take a free answer."""
+    digits = "".join(rng.choice("0123") for _ in range(rng.choice([1, 3, 9, 40])))
+    return ["", digits] if FREE.search(LOOP.sub(b"", data)) else [""]
+
+
+def answers(programs: Programs, data: bytes, choices: Sequence[str]) -> Optional[Answered]:
+    """Returns the findings of a report and a run for each of these choices; None if the module is refused."""
     pycheck, pyrun = programs
+    runs: List[Run] = []
     with tempfile.NamedTemporaryFile(suffix=".py") as file:
         file.write(data)
         file.flush()
         report = fuzz.answer([pycheck, "--json"], file.name)
         if report[0] == 2:
             return None
-        events, end = fuzz.trace_of(fuzz.answer([pyrun, "--fuel", FUEL], file.name))
-    return json.loads(report[1])["findings"], events, end
+        for word in choices:
+            given = ["--choices", word] if word else []
+            events, end = fuzz.trace_of(fuzz.answer([pyrun, "--fuel", FUEL, *given], file.name))
+            runs.append((word, events, end))
+    return json.loads(report[1])["findings"], runs
 
 
-def judged(data: bytes, answered: Optional[Answered], heard: Sequence[str]) -> Tuple[str, Set[str]]:
-    """Returns how a run ended, and the kinds of silent errors of the report."""
-    if answered is None:
-        return "refused", set()
-    findings, events, end = answered
+def silent_kinds(data: bytes, findings: List[fuzz.Finding], heard: Sequence[str]) -> Set[str]:
+    """Returns the kinds of silent errors of a report."""
     tells = silent.Silent(data)
-    kinds = {tells.kind(each["code"], each["start"]) for each in findings} - {"", *heard}
+    return {tells.kind(each["code"], each["start"]) for each in findings} - {"", *heard}
+
+
+def judged(findings: List[fuzz.Finding], run: Run, kinds: Set[str]) -> str:
+    """Returns how a run ended, beside these kinds of silent errors."""
+    _, events, end = run
     if end not in fuzz.FAULTS:
-        return "without fault", kinds
+        return "without fault"
     if events & {(each["start"], each["end"]) for each in findings}:
-        return "after a listed place", kinds
-    return ("by a silent error", kinds) if kinds else ("unheard", kinds)
+        return "after a listed place"
+    return "by a silent error" if kinds else "unheard"
 
 
-def searched(given: Tuple[Programs, str, int, Sequence[str]]) -> Tuple[str, Set[str], Set[str], str]:
-    """Returns the result for one module: how its run ended, the kinds of silent errors, the codes, and the text to
-    show."""
+def searched(given: Tuple[Programs, str, int, Sequence[str]]) -> Result:
+    """Returns the result for one module."""
     programs, seed, number, heard = given
     data = made_module(random.Random(f"{seed}/{number}"))
+    choices = choices_for(data, random.Random(f"{seed}/{number}/choices"))
     try:
-        answered = answers(programs, data)
+        answered = answers(programs, data, choices)
     except fuzz.Found as found:
-        return "unanswered", set(), set(), f"NO ANSWER: {found.args[1]}\n{data.decode()}"
-    verdict, kinds = judged(data, answered, heard)
-    codes = {each["code"] for each in answered[0]} if answered else set()
-    return verdict, kinds, codes, counterexample(programs, data, heard) if verdict == "unheard" else ""
+        return ["unanswered"], set(), set(), f"NO ANSWER: {found.args[1]}\n{data.decode()}"
+    if answered is None:
+        return ["refused"], set(), set(), ""
+    findings, runs = answered
+    kinds = silent_kinds(data, findings, heard)
+    runs = [run for run in runs if not run[0] or run[1:] != runs[0][1:]]
+    verdicts = [judged(findings, run, kinds) for run in runs]
+    shown = counterexample(programs, data, runs[verdicts.index("unheard")][0], heard) if "unheard" in verdicts else ""
+    return verdicts, kinds, {each["code"] for each in findings}, shown
 
 
-def smallest(programs: Programs, data: bytes, heard: Sequence[str]) -> bytes:
-    """Returns the fewest lines that show the same."""
-    def still(parts: List[bytes]) -> bool:
-        text = b"".join(parts)
-        return judged(text, answers(programs, text), heard)[0] == "unheard"
+def smallest(programs: Programs, data: bytes, choices: str, heard: Sequence[str]) -> Tuple[bytes, str]:
+    """Returns the fewest lines that show the same, and the fewest of these choices."""
+    def still(text: bytes, word: str) -> bool:
+        answered = answers(programs, text, [word])
+        if answered is None:
+            return False
+        findings, runs = answered
+        return judged(findings, runs[0], silent_kinds(text, findings, heard)) == "unheard"
 
-    return b"".join(fuzz.without(data.splitlines(keepends=True), still))
+    lines = data.splitlines(keepends=True)
+    data = b"".join(fuzz.without(lines, lambda parts: still(b"".join(parts), choices)))
+    shorter = (choices[:at] for at in range(len(choices)))
+    return data, next((word for word in shorter if still(data, word)), choices)
 
 
-def counterexample(programs: Programs, data: bytes, heard: Sequence[str]) -> str:
-    """Returns a counterexample, made small, with its report and its run."""
-    data = smallest(programs, data, heard)
-    findings, events, end = answers(programs, data) or ([], set(), "refused")
+def counterexample(programs: Programs, data: bytes, choices: str, heard: Sequence[str]) -> str:
+    """Returns a counterexample, made small, with its report, its choices and its run."""
+    data, choices = smallest(programs, data, choices, heard)
+    findings, runs = answers(programs, data, [choices]) or ([], [(choices, set(), "refused")])
+    _, events, end = runs[0]
     report = ", ".join(f"{each['code']} at {each['start']} to {each['end']}" for each in findings) or "no finding"
     evaluated = ", ".join(f"{start} to {stop}" for start, stop in sorted(events)) or "none"
     first = "COUNTEREXAMPLE: a run fails, and passes through no line of the report"
-    return f"{first}\n{data.decode()}report: {report}\nevents: {evaluated}\nend: {end}"
+    return (f"{first}\n{data.decode()}report: {report}\nchoices: {choices or 'none'}\nevents: {evaluated}\n"
+            f"end: {end}")
 
 
 def search(words: argparse.Namespace) -> int:
@@ -469,23 +515,28 @@ def search(words: argparse.Namespace) -> int:
     verdicts: Counter[str] = collections.Counter()
     met: Counter[str] = collections.Counter()
     codes: Counter[str] = collections.Counter()
+    tried = by_choices = counterexamples = 0
     given = ((programs, words.seed, number, tuple(words.hear)) for number in range(words.modules))
     with multiprocessing.Pool(words.jobs) as pool:
-        for verdict, kinds, listed, shown in pool.imap(searched, given, 8):
-            verdicts[verdict] += 1
+        for ended, kinds, listed, shown in pool.imap(searched, given, 8):
+            tried, by_choices = tried + 1, by_choices + len(ended) - 1
+            counterexamples += "unheard" in ended
+            verdicts.update(ended)
             codes.update(listed)
-            met.update(kinds if verdict == "by a silent error" and len(kinds) == 1 else ())
-            if shown and verdicts["unheard"] + verdicts["unanswered"] <= MOST_SHOWN:
+            for kind in kinds if len(kinds) == 1 else ():
+                met[kind] += ended.count("by a silent error")
+            if shown and counterexamples + verdicts["unanswered"] <= MOST_SHOWN:
                 print(shown, flush=True)
             if shown and words.first:
                 break
     print("met:", ", ".join(f"{kind} {met[kind]}" for kind in silent.KINDS))
     print("modules with each code:", ", ".join(f"{code} {codes[code]}" for code in sorted(codes)))
-    tried = sum(verdicts.values())
-    ends = ("after a listed place", "by a silent error", "unheard", "without fault", "refused", "unanswered")
-    print(f"{tried} modules: {', '.join(f'{verdicts[end]} {end}' for end in ends)}")
-    print(f"{verdicts['unheard']} counterexamples")
-    return 1 if verdicts["unheard"] or verdicts["unanswered"] or tried == verdicts["refused"] else 0
+    ends = ("after a listed place", "by a silent error", "unheard", "without fault")
+    runs = sum(verdicts[end] for end in ends)
+    print(f"{tried} modules, {verdicts['refused']} refused, {verdicts['unanswered']} unanswered")
+    print(f"{runs} runs: {', '.join(f'{verdicts[end]} {end}' for end in ends)}; {by_choices} by choices")
+    print(f"{counterexamples} counterexamples")
+    return 1 if counterexamples or verdicts["unanswered"] or tried == verdicts["refused"] else 0
 
 
 def main(words: List[str]) -> int:

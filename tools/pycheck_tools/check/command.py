@@ -6,13 +6,14 @@ NAME is one of these, and all are run where none is named:
 
     definitions   each definition that the documents name is where they say
     edits         each wrong body can be applied; with --log LOG, what `rt ci` printed, that it tried each of its own
-    tested        the list of docs/TESTED.md, which test calls which public call; --calls prints all calls instead
+    tested        the list of docs/TESTED.md, which test calls which public call, and that of docs/PROVED.md, which functions have no
+                  `ensures`; --calls prints all calls instead
     pages         links, the size of README.md, and the changes that CONTRIBUTING.md shows
     names         no two public types, functions or definitions of the crates have one name and two meanings
     twice         no function and no definition of six lines stands twice
     architecture  the picture and the crates of docs/ARCHITECTURE.md; with --write they are written
     help          the texts of crates/pc_code_texts; of each --page, or of docs/CODES.md
-    data          the texts that tools/check_all shows; with --write they are written
+    data          the texts that tools/check_all and the page of web/ show; with --write they are written
     generated     two tables of modules made by rule; with --write they are written
     codes         the modules of pages with the reports below them; of each --page, or of four pages
     commands      what pages show of files and commands; of each --page, or of two pages

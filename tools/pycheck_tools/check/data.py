@@ -1,4 +1,4 @@
-"""Writes the texts of docs/CODES.md and docs/PROFILE.md as data, which tools/check_all shows and a wheel brings along.
+"""Writes the texts of docs/CODES.md and docs/PROFILE.md as data, which tools/check_all and the page of web/ show.
 
     tools/check data [--write]
 
@@ -26,10 +26,17 @@ for some words at the place of an error, or for some forms of the sentence of it
     detail   the form of the sentence; empty for all sentences
     write    what is said there
 
-Without `--write` it only compares, prints a line for each file that differs, and the exit status is then 1. It also
-reports a page without such forms, and a form that is listed twice. A code without a title, a kind, a meaning or a
-sentence that mends it is reported, and so is an error that does not say what it is in a run, in the form of the
-others; the exit status is 1 in these cases too.
+and web/texts.json, an object with what the page shows:
+
+    codes     for each code its entry of codes.json, without the member `entry`
+    cases     the rows of cases.json
+    forms     those of left_out.json
+    examples  the modules of examples/ by name, those of the folder itself first
+
+The first three files are in the package that a wheel contains. Without `--write` it only compares, prints a line for each
+file that differs, and the exit status is then 1. It also reports a page without such forms, and a form that is listed
+twice. A code without a title, a kind, a meaning or a sentence that mends it is reported, and so is an error that does not
+say what it is in a run, in the form of the others; the exit status is 1 in these cases too.
 """
 from __future__ import annotations
 
@@ -51,6 +58,8 @@ RUN = re.compile(r"^\*\*In a run:\*\* (This error is [^.]+\.)\n\n", re.MULTILINE
 BEING = re.compile(r"This error is (?:heard|harmless|silent)(?: (?:at|where) .+, and heard(?: (?:at|where) .+| elsewhere))?\.")
 FORMS = re.compile(r"^\| Python \| Answer \| Write \|\n\|[-|]+\n((?:\|.*\n)+)", re.MULTILINE)
 CASES = ROOT / "tools" / "pycheck_all" / "cases.json"
+EXAMPLES = ROOT / "examples"
+WEB = ROOT / "web" / "texts.json"
 WORDS = re.compile(r"^\| Code \| Words \| Detail \| Advice \|\n\|[-|]+\n((?:\|.*\n)+)", re.MULTILINE)
 WORD = re.compile(r"`(\w+(?: \w+)?)`")
 CELLS = re.compile(r"(?<!\\)\|")
@@ -139,6 +148,22 @@ def faults_of(cases: List[Dict[str, Any]], texts: Dict[str, Dict[str, Any]]) -> 
             yield f"{PAGE.name}: a row has no code of the page, neither words nor a sentence, or no advice: {it['code']}"
 
 
+def examples() -> List[Dict[str, str]]:
+    """Returns the modules that the page offers. It leaves out a text that the page's editor could not hold."""
+    found = []
+    for file in sorted(EXAMPLES.rglob("*.py"), key=lambda it: (len(it.parts), it)):
+        text = file.read_bytes().decode(errors="replace")
+        if not any(it in text for it in "\r\0\ufffd"):
+            found.append({"name": file.relative_to(EXAMPLES).with_suffix("").as_posix(), "text": text})
+    return found
+
+
+def shown_on_the_page(texts: Dict[str, Dict[str, Any]], cases: List[Dict[str, Any]], forms: List[Dict[str, Any]]) -> Dict[str, Any]:
+    """Returns the data of web/texts.json."""
+    codes = {code: {part: text for part, text in it.items() if part != "entry"} for code, it in texts.items()}
+    return {"codes": codes, "cases": cases, "forms": forms, "examples": examples()}
+
+
 def data_of(whole: Any) -> str:
     """Returns data as it is written."""
     return json.dumps(whole, ensure_ascii=False, indent=1) + "\n"
@@ -153,8 +178,9 @@ def run(asked: argparse.Namespace) -> int:
     for line in missing:
         print(line)
     status = 1 if missing else 0
-    written = {DATA: data_of(texts), LEFT_OUT: data_of(forms), CASES: data_of(cases)}
-    for file, text in written.items():
+    written = {DATA: texts, LEFT_OUT: forms, CASES: cases, WEB: shown_on_the_page(texts, cases, forms)}
+    for file, whole in written.items():
+        text = data_of(whole)
         if asked.write:
             file.write_text(text, encoding="utf-8")
         elif not file.exists() or file.read_text(encoding="utf-8") != text:

@@ -8,7 +8,9 @@ that mentions a code is in the row of that code. A table in the README of a crat
 a heading that names the crate, has rows | .. `NAME` .. | specs/FILE.antt, .. | .. |: one of the files defines each name.
 Each file that these pages name exists: the target of each link, each path specs/FILE.antt, proofs/FILE.antt and src/FILE.rt,
 which is one of the page's crate unless `CRATE` or CRATE/ precedes it, and each name in the column File of a table whose
-first column that is, which is proofs/NAME.antt.
+first column that is, which is proofs/NAME.antt. All other pages of docs/, README.md and CONTRIBUTING.md say `NAME`, `NAME` in
+[TEXT](LINK), where LINK is a file *.antt: it defines these names. Of an application, as `Explains module finding detail`, the
+first word is the name.
 
 Prints each name, file and code that is missing, and last how many names were found. The exit status is 1 if anything else
 was printed, or if no name was found.
@@ -28,6 +30,7 @@ from .codes import CODES
 
 PAGE = os.path.join("docs", "DEFINITIONS.md")
 NAMES = re.compile(r"((?:`[^`]+`, )*`[^`]+`) in \[(\w+/specs/[\w/]+\.antt)\]\(([^)]+)\)")
+BESIDE = re.compile(r"((?:`[^`]+`(?:,|,? and)\s+)*`[^`]+`)\s+(?:in|of)\s+\[[^\]]+\]\(([^)#\s]+\.antt)\)")
 NAME = re.compile(r"`([^`]+)`")
 CELLS = re.compile(r"(?<!\\)\|")
 FILE = re.compile(r"\b(?:specs|proofs)/[\w/]+\.antt")
@@ -164,6 +167,26 @@ def read(page: str, crate: Optional[str]) -> Tuple[List[str], List[str], List[st
     return names, codes, list(dict.fromkeys(faults))
 
 
+def pages() -> Iterator[str]:
+    """Yields the pages that name definitions beside links to their files, and have no index."""
+    found = [path for path in (ROOT / "docs").glob("*.md") if path != ROOT / PAGE]
+    found += [path for path in (ROOT / "README.md", ROOT / "CONTRIBUTING.md") if path.exists()]
+    return (os.path.relpath(path, ROOT) for path in sorted(found))
+
+
+def beside_links(page: str) -> Tuple[List[str], List[str]]:
+    """Returns the names that a page has beside links to files of definitions, and its faults."""
+    text = (ROOT / page).read_text(encoding="utf-8")
+    names: List[str] = []
+    faults: List[str] = []
+    for found in BESIDE.finditer(text):
+        here = [name.split()[0] for name in NAME.findall(found[1])]
+        path = os.path.normpath(os.path.join(os.path.dirname(page), found[2]))
+        names += here
+        faults += faults_of(f"{page}, line {text.count(chr(10), 0, found.start()) + 1}", here, [path])
+    return names, faults
+
+
 def run(asked: argparse.Namespace) -> int:
     """Prints the faults, and returns the exit status."""
     names, codes, faults = read(PAGE, None)
@@ -172,6 +195,10 @@ def run(asked: argparse.Namespace) -> int:
         crate = os.path.basename(os.path.dirname(readme))
         more, _, wrong = read(os.path.relpath(readme, ROOT), crate)
         names += more
+        faults += wrong
+    for page in pages():
+        here, wrong = beside_links(page)
+        names += here
         faults += wrong
     for fault in faults:
         print(fault)

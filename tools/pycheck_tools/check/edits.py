@@ -15,9 +15,13 @@ Each law, a public function whose body is empty, must be named by an edit of wro
 wrong_bodies/LAWS.md. A row is | `CRATE::MODULE::NAME` | TEXT |, and the first name in the text's ` ` is the edit of the crate's must-fail/
 that makes the law false, or another law, of which this one is a case and that an edit of wrong_bodies/ names.
 
+docs/TESTED.md, if it is there, must say how many edits of the gate have a control, how many a reason why they have none, and how many
+neither, in the words in which this check prints it.
+
 Prints the faults, then the edits whose refusal says little, since the prover only met a limit or missed a name, how many edits
 of the gate have a control, how many laws there are, and last how many edits there are and how many of those of `rt ci` were refused.
-The exit status is 1 if something is wrong, if there is no edit, or if LOG tells of none.
+The exit status is 1 if something is wrong, if there is no edit, or if LOG tells of none, unless there is none to try and LOG says that
+all passed.
 """
 from __future__ import annotations
 
@@ -38,10 +42,14 @@ WEAKLY = (f"{REFUSED} (only by a limit", f"{REFUSED} (only because a proof file 
 TRYING = re.compile(r"^rt: (\w+): trying its must-fail edits \((\d+)\)$", re.M)
 EARLIER = re.compile(r"^rt: (\w+): (\d+) of its (\d+) must-fail edits were tried by an earlier run", re.M)
 ALL = re.compile(r"^rt: ok;.*; must-fail edits: (\d+) refused", re.M)
+# The line by which rt says that it proved and tried all that there is
+PASSED = re.compile(r"^rt: ok;", re.M)
 STRAY = re.compile(r"^rt: (\S+: BAD EDIT: .*)$", re.M)
 Edits = List[Tuple[str, Path]]
 # The page of the laws that no edit names, and a row: the law, and what stands for an edit of it
 LAWS = READING.KEPT / "LAWS.md"
+# The page that says how many edits have a control
+PAGE = ROOT / "docs/TESTED.md"
 LAW_ROW = re.compile(r"^\| `(\w+(?:::\w+)+)` \| [^`\n]*`([^`\n]+)`.* \|$", re.M)
 
 
@@ -142,6 +150,13 @@ def told_of_controls(edits: Edits) -> str:
     return f"{with_one} edits of the gate have a control, {with_none} a reason, {len(read) - with_one - with_none} neither"
 
 
+def faults_of_count(edits: Edits) -> Iterator[str]:
+    """Yields a line if the page does not say how many edits have a control."""
+    said, page = told_of_controls(edits), " ".join(sums.read(PAGE).split())
+    if page and said not in page:
+        yield f"{PAGE.relative_to(ROOT)} does not say: {said}"
+
+
 def faults_of_verdicts(told: Dict[str, str], edits: Edits) -> Iterator[str]:
     """Yields the faults of the verdicts, by crate and name, on the edits of `rt ci`."""
     of_files = [f"{crate}/{edit.name}" for crate, edit in edits]
@@ -173,7 +188,7 @@ def faults_of_counts(log: str, edits: Edits) -> Iterator[str]:
 def faults_of_log(log: str, edits: Edits) -> Iterator[str]:
     """Yields the faults that the log of `rt ci` shows."""
     told = {f"{crate}/{name}": said for crate, name, said in VERDICT.findall(log)}
-    if not told:
+    if not told and (edits or not PASSED.search(log)):
         yield "the log tells of no edit that was tried"
     yield from faults_of_verdicts(told, edits)
     yield from faults_of_counts(log, edits)
@@ -192,7 +207,7 @@ def run(asked: argparse.Namespace) -> int:
     log = read_log(asked.log) if asked.log else ""
     faults = [*faults_of_files(gate + apart), *faults_of_page(apart), *(faults_of_log(log, gate) if asked.log else [])]
     fits = not any(READING.misfit(crate, edit) for crate, edit in apart)
-    faults += [*faults_of_controls(apart), *faults_of_laws(apart)] if fits else []
+    faults += [*faults_of_controls(apart), *faults_of_count(apart), *faults_of_laws(apart)] if fits else []
     for line in [*faults, *(stale(apart) if fits else [])]:
         print(line)
     told = VERDICT.findall(log)

@@ -16,6 +16,7 @@ from pathlib import Path
 from typing import Dict, List
 
 from .. import ROOT
+from ..rt_files import body_of
 
 TEXTS = os.path.join("crates", "pc_code_texts", "src")
 
@@ -28,10 +29,7 @@ def text_in(*names: str) -> str:
 
 def function_texts(source: str, function: str) -> Dict[str, str]:
     """Returns the text for each code in a function of a source; empty if there is no such function."""
-    parts = source.split(f"pub fn {function}(", 1)
-    if len(parts) == 1:
-        return {}
-    return dict(re.findall(r'Code::([A-Z]\d+) =>\s+\{?\s*"([^"]*)"', parts[1].split("\n    }\n", 1)[0]))
+    return dict(re.findall(r'Code::([A-Z]\d+) =>\s+\{?\s*"([^"]*)"', body_of(source, function)))
 
 
 def is_sentence(text: str) -> bool:

@@ -1,4 +1,5 @@
-"""Checks the list of docs/TESTED.md, which test calls which public call, against the sources.
+"""Checks the list of docs/TESTED.md, which test calls which public call, against the sources; and that of docs/PROVED.md,
+which functions have no `ensures`.
 
     tools/check tested [--calls]
 
@@ -16,9 +17,13 @@ body is empty: there is nothing to call.
 The page also says how many calls no test calls by itself, as `N of the M calls are called by no test itself`, where M leaves the laws
 out, and how many tests a folder of tests has, as `tests/NAME/run`, N tests: the functions test_.. of the files there.
 
+docs/PROVED.md says `N functions have no `ensures`` under the heading WITHOUT, and names them in a table: | `CRATE` | `NAME`, `TYPE::NAME` | WHAT |.
+Those are the functions of all crates but those under OF_TESTS, public or not, and the methods of types and of traits; a method
+that is written for a trait has the clauses of the trait, and is left out.
+
 Prints each call of the list that does not exist, each public call that is not on the list, or twice, each file that does
-not call what it is listed for, and each of these numbers that is wrong; and last how many calls there are, how many
-are laws, and how many have no test.
+not call what it is listed for, each function that docs/PROVED.md names too much or too little, and each of these numbers that is
+wrong; and last how many calls there are, how many are laws, and how many have no test.
 The exit status is 1 if something is wrong. `--calls` prints all calls instead, with the files of tests that name
 them.
 """
@@ -34,7 +39,7 @@ from ..rt_files import NAME, Function, modules_of, without_text
 
 PAGE = ROOT / "docs/TESTED.md"
 HEADING = "## Which test calls which public call"
-OF_TESTS = ("test_rows", "test_layers", "test_cases", "test_runs", "test_typing", "test_tables", "test_server_calls")
+OF_TESTS = ("test_rows", "test_trees", "test_layers", "test_cases", "test_runs", "test_typing", "test_tables", "test_server_calls")
 NONE, LAW = "none", "law"
 
 ROW = re.compile(r"^\|(.+)\|(.+)\|\s*$")
@@ -235,6 +240,37 @@ def at_line(page: str, found: "re.Match[str]") -> str:
     return f"{PAGE.relative_to(ROOT)}, line {page.count(chr(10), 0, found.start()) + 1}"
 
 
+# The functions without an `ensures`
+
+PROVED = ROOT / "docs/PROVED.md"
+WITHOUT = "## Functions without a contract"
+COUNT = re.compile(r"^(\d+) functions have no `ensures`", re.M)
+OF_CRATE = re.compile(r"^\| `(\w+)` \|([^|]+)\|", re.M)
+
+
+def without_ensures() -> Set[str]:
+    """Returns the functions without an `ensures`, each as CRATE::NAME or CRATE::TYPE::NAME."""
+    found = set()
+    for crate in crates():
+        for module in modules_of(crate).values() if crate not in OF_TESTS else ():
+            owned = [("", module.functions.values()), *((f"{name}::", each) for name, each in module.methods.items())]
+            found |= {f"{crate}::{owner}{it.name}" for owner, each in owned for it in each if not re.search(r"\bensures\b", it.head)}
+    return found
+
+
+def faults_of_proved() -> Iterator[str]:
+    """Yields the faults of the functions that docs/PROVED.md says have no `ensures`, and of their number."""
+    page, there = PROVED.read_text(encoding="utf-8"), without_ensures()
+    section = page.partition(f"\n{WITHOUT}\n")[2].partition("\n## ")[0]
+    named = {f"{crate}::{name}" for crate, names in OF_CRATE.findall(section) for name in QUOTED.findall(names)}
+    at = PROVED.relative_to(ROOT)
+    yield from (f"{at}: {name} has no `ensures`, and is not named" for name in sorted(there - named))
+    yield from (f"{at}: {name} is no function without an `ensures`" for name in sorted(named - there))
+    said = COUNT.search(section)
+    if not said or int(said[1]) != len(there):
+        yield f"{at}: {len(there)} functions have no `ensures`, not {said[1] if said else 'as many as the page says'}"
+
+
 def print_calls(calls: Dict[str, Call], files: Dict[str, Test]) -> None:
     """Prints each public call with the files of tests that name it as a call."""
     for name, call in calls.items():
@@ -258,6 +294,7 @@ def run(asked: argparse.Namespace) -> int:
     laws = sum(call.function.is_law for call in calls.values())
     # A law has nothing to call
     faults = compared(calls, files, rows) + [*faults_of_numbers(PAGE.read_text(encoding="utf-8"), len(calls) - laws, without)]
+    faults += faults_of_proved()
     for fault in faults:
         print(fault)
     print(f"{len(calls)} public calls, {laws} laws, {without} without a test, {len(faults)} faults")

@@ -3,8 +3,9 @@
     tools/check twice
 
 Two are the same if they have six lines or more, and these are the same but for blanks and comments: the bodies of functions of
-crates/NAME/src, of tools/ and of tests/, and the definitions of crates/NAME/specs, in which their own names may differ. Lines of brackets
-alone do not count. Duplicates under EXPLAINED are allowed, as long as docs/DECISIONS.md has the words given there.
+crates/NAME/src, of tools/ and of tests/, and the definitions of crates/NAME/specs. Their own names may differ in them, and in functions of
+crates those of the functions of their cycle of calls. Lines of brackets alone do not count. Duplicates under EXPLAINED are allowed, as long
+as docs/DECISIONS.md has the words given there.
 
 Prints all duplicates that are not explained, and each explanation that is not needed or not on the page. Last it says how many
 functions and definitions were compared. The exit status is 1 if something is wrong, or if there was nothing to compare.
@@ -16,19 +17,19 @@ import ast
 import re
 from collections import defaultdict
 from pathlib import Path
-from typing import Dict, FrozenSet, Iterator, List, Tuple
+from typing import AbstractSet, Dict, FrozenSet, Iterable, Iterator, List, Mapping, Set, Tuple
 
 from .. import ROOT
 from ..antt_files import DEFINED
-from ..rt_files import closing, without_text
+from ..rt_files import without_text, written_in
 
 PAGE = "docs/DECISIONS.md"
 FEWEST = 6
 # The places of duplicates, and the words of the page that explain them; there are none at present
 EXPLAINED: Dict[FrozenSet[str], str] = {}
 BRACKETS = re.compile(r"[{}()\[\];,]+")
-FUNCTION = re.compile(r"\bfn\s+(\w+)")
-CLAUSE = re.compile(r"\b(?:requires|ensures|decreases)\b")
+# A function, with the name of its cycle of calls if it has one
+FUNCTION = re.compile(r"(?:#\[cycle\((\w+)\)\][^{};]*?)?\bfn\s+(\w+)")
 # The place of a piece of code, and its lines
 Piece = Tuple[str, str]
 
@@ -41,18 +42,33 @@ def lines_of(text: str, comment: str) -> str:
     return "\n".join(kept) if len(kept) >= FEWEST else ""
 
 
-def bodies_in(source: str) -> Iterator[Piece]:
-    """Yields the functions of a source of a crate, with their bodies: the last brackets before the next item."""
+def without_names(lines: str, name: str, cycle: AbstractSet[str] = frozenset()) -> str:
+    """Returns lines of a function with `@` in place of its name, and `@1`, `@2` in place of the others of its cycle, in the
+    order in which they occur."""
+    words = [it for it in dict.fromkeys(re.findall(r"\w+", lines)) if it in cycle and it != name]
+    marks = {name: "@", **{word: f"@{number}" for number, word in enumerate(words, 1)}}
+    return re.sub(r"\w+", lambda found: marks.get(found[0], found[0]), lines)
+
+
+def cycles_in(sources: Iterable[str]) -> Dict[str, Set[str]]:
+    """Returns the names of the functions of each cycle of calls, for the sources of one crate."""
+    cycles: Dict[str, Set[str]] = defaultdict(set)
+    for source in sources:
+        for cycle, name in FUNCTION.findall(without_text(source)):
+            if cycle:
+                cycles[cycle].add(name)
+    return cycles
+
+
+def bodies_in(source: str, cycles: Mapping[str, AbstractSet[str]]) -> Iterator[Piece]:
+    """Yields the functions of a source of a crate, with their bodies. The names of a function and of those of its cycle are
+    left out of its lines."""
     code = without_text(source)
-    for found in FUNCTION.finditer(code):
-        place = closing(code, code.index("(", found.end()))
-        brace, semicolon = code.find("{", place), code.find(";", place)
-        while 0 <= brace and not 0 <= semicolon < brace:
-            end = closing(code, brace)
-            if not CLAUSE.search(code, place, brace):
-                yield found[1], lines_of(source[brace:end], "//")
-                break
-            place, brace, semicolon = end, code.find("{", end), code.find(";", end)
+    cycle_of = {name: cycle for cycle, name in FUNCTION.findall(code)}
+    for it in written_in(code):
+        if source[it.body] == "{":
+            others = cycles.get(cycle_of[it.name], frozenset())
+            yield it.name, without_names(lines_of(source[it.body : it.end], "//"), it.name, others)
 
 
 def definitions_in(source: str) -> Iterator[Piece]:
@@ -70,11 +86,11 @@ def definitions_in(source: str) -> Iterator[Piece]:
 
 
 def functions_in(source: str) -> Iterator[Piece]:
-    """Yields the functions of a source of Python, with their bodies without docstrings."""
+    """Yields the functions of a source of Python, with their bodies without docstrings and without their own names."""
     for node in ast.walk(ast.parse(source)):
         if isinstance(node, (ast.FunctionDef, ast.AsyncFunctionDef)):
             body = node.body[1:] if ast.get_docstring(node) is not None else node.body
-            yield node.name, lines_of("\n".join(map(ast.unparse, body)), "\n")
+            yield node.name, without_names(lines_of("\n".join(map(ast.unparse, body)), "\n"), node.name)
 
 
 def is_python(path: Path) -> bool:
@@ -86,8 +102,13 @@ def is_python(path: Path) -> bool:
 
 def pieces() -> Iterator[Piece]:
     """Yields everything that is compared."""
-    kinds = (("crates/*/src/**/*.rt", bodies_in), ("crates/*/specs/**/*.antt", definitions_in),
-             ("tools/**/*", functions_in), ("tests/**/*", functions_in))
+    for crate in sorted(ROOT.glob("crates/*/src")):
+        sources = {path: path.read_text(encoding="utf-8") for path in sorted(crate.glob("**/*.rt"))}
+        cycles = cycles_in(sources.values())
+        for path, source in sources.items():
+            for name, lines in bodies_in(source, cycles):
+                yield f"{path.relative_to(ROOT)}: {name}", lines
+    kinds = (("crates/*/specs/**/*.antt", definitions_in), ("tools/**/*", functions_in), ("tests/**/*", functions_in))
     for pattern, read in kinds:
         for path in sorted(ROOT.glob(pattern)):
             if read is not functions_in or is_python(path):

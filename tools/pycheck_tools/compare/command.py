@@ -6,6 +6,7 @@ TOOL is one of these; `tools/compare TOOL --help` says how each is called:
 
     rows    worked examples with the answers that stand beside them
     texts   what pycheck and Python's own parser take
+    trees   the tokens and trees of texts with those of Python's own `tokenize` and `ast`
     python  runs of an interpreter of Python with those of pyrun
     mypy    what docs/BESIDE_MYPY.md says of pycheck and mypy with what both say
     types   the types of expressions by pycheck with those that mypy reveals
@@ -16,7 +17,7 @@ from __future__ import annotations
 
 from ..words import run_tool
 
-TOOLS = ("rows", "texts", "python", "mypy", "types")
+TOOLS = ("rows", "texts", "trees", "python", "mypy", "types")
 
 
 def main() -> int:

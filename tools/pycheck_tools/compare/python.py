@@ -121,7 +121,7 @@ def parts_of(text: str) -> Iterator[Tuple[Optional[str], str]]:
     and the cases."""
     for part in text.split("\n==== ")[1:]:
         heading, _, lines = part.partition("\n")
-        if heading.endswith(" of texts"):
+        if heading.endswith((" of texts", " of bytes")):
             continue
         if heading.endswith(" of modules"):
             yield None, lines

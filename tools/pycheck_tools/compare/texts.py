@@ -10,8 +10,8 @@ The same WORD, which is 1 without one, makes the same texts.
 Python must take all that pycheck takes. Of what pycheck refuses, Python may take only what docs/PROFILE.md leaves out: each
 such refusal must have a reason in FILE, tests/python_texts/reasons.json: a code, a pattern of what stands at its byte, and words
 of docs/PROFILE.md or docs/LEXICAL.md. A reason that no text needs, and one whose words no page has, are wrong too. Refusals of
-the code G1 are counted alone: there is no list of reasons for them yet. The tool prints each text that has none, and each such reason, and last how many texts there were. Status 1
-where something is wrong, 3 after a mistake in the words.
+the code G1 are counted alone: `tools/compare trees` judges those. The tool prints each text that has none, and each such reason,
+and last how many texts there were. Status 1 where something is wrong, 3 after a mistake in the words.
 """
 from __future__ import annotations
 
