@@ -45,10 +45,12 @@ class Programs(Test):
         lacks = 'echo out of memory >&2; exit 3'
         program = self.program(f'case "$*" in *--details*) {lacks};; esac\nreal "$@"')
         self.assertEqual(self.check("--program", program, "a.py").output.splitlines()[0], "a.py:4:11: E13 operator")
-        others = self.program(f'case "$*" in *--json*) real "$@";; *) {lacks};; esac')
+
+    def test_other_places_of_details(self) -> None:
         self.write("d.py", HEADER + "def f() -> None:\n    pass\n\n\ndef f() -> None:\n    pass\n\n\ndef main() -> None:\n    f()\n\n\nmain()\n")
-        done = self.check("--program", others, "d.py")
-        self.assertIn("f is already bound", done.output)
+        one = self.program('case "$*" in *--json*) real "$@";; *) exit 3;; esac')
+        done = self.check("--program", one, "d.py")
+        self.assertIn("f is already bound, see 3:5", done.output)
         self.assertEqual(done.status, 1)
 
     def test_memory_of_the_program(self) -> None:
@@ -78,6 +80,20 @@ class Programs(Test):
         self.assertEqual(self.told(f"echo '{report % 54}'; exit 1"), changed)
         self.assertEqual(self.told(f"echo '{report.replace('62', '6200') % 58}'; exit 1"), changed)
         self.assertEqual(self.told("echo refused N2 at byte 9999 >&2; exit 2"), changed)
+        for line, column in ((0, 1), (99, 1), (4, 0), (4, 99)):
+            place = f'{{"column":{column},"line":{line}}}'
+            self.assertEqual(self.told(self.detailed(f'{{"places":[{place}],"text":"t"}}')), changed)
+
+    def detailed(self, detail: str) -> str:
+        """Returns the words of a program that reports the finding of a file with this detail."""
+        row = f'{{"code":"E13","column":11,"detail":{detail},"end":62,"line":4,"start":58}}'
+        return f"""echo '{{"dynamic":0,"errors":1,"findings":[{row}],"format":2}}'; exit 1"""
+
+    def test_details_that_are_none(self) -> None:
+        places = '"places":[]', '"places":1', '"places":[1]', '"places":[{"line":4}]', '"places":[{"column":1,"line":"x"}]'
+        for parts in (places[0], '"text":"t"', places[0] + ',"text":""', *(f'{it},"text":"t"' for it in places[1:])):
+            told = self.told(self.detailed(f"{{{parts}}}"))
+            self.assertTrue(told.startswith("b.py: the report of pycheck cannot be read: "), told)
 
     def test_much_on_both_outputs(self) -> None:
         many = "head -c 300000 /dev/zero | tr '\\0' x"

@@ -1,13 +1,10 @@
-"""What is wrong at the findings of a report: the sentences of the program, and the other places that they are about.
-
-The report in JSON has the sentences, the one as text has behind each sentence the other places, as `, see 3:5, 9:1`."""
+"""What is wrong at the findings of a report: the sentences of the program, and the other places that they are about."""
 from __future__ import annotations
 
-import re
-from typing import Any, List, Optional, Tuple
+from typing import Any, Optional
 
 from .findings import Detail, Finding
-from .source import Point, Text
+from .source import Text
 
 # The words for the other places, by the codes whose details name some
 OTHERS = {
@@ -26,52 +23,18 @@ OTHERS = {
     "E30": "the statement before",
     "E31": "the parameter with a default",
 }
-SEEN = re.compile(r", see ((?:\d+:\d+, )*\d+:\d+)")
 
 
-def detail_of(row: Any) -> Optional[Detail]:
-    """Returns the detail in a row of a report; None if it has none. Raises KeyError, TypeError or ValueError if it has
-    an unknown form."""
+def detail_of(row: Any, text: Text) -> Optional[Detail]:
+    """Returns the detail in a row of a report of a text; None if it has none. Raises KeyError, TypeError or ValueError
+    if it has an unknown form, and IndexError if the text has no such places."""
     if "detail" not in row:
         return None
-    text = row["detail"]["text"]
-    if not isinstance(text, str) or not text:
+    said, places = row["detail"]["text"], row["detail"]["places"]
+    if not isinstance(said, str) or not said:
         raise ValueError("a detail has no sentence")
-    text.encode()
-    return Detail(text)
-
-
-def has_others(findings: List[Finding]) -> bool:
-    """Whether a detail of some findings may name other places."""
-    return any(it.detail and it.code in OTHERS for it in findings)
-
-
-def others_in(findings: List[Finding], output: bytes, text: Text) -> List[Tuple[Point, ...]]:
-    """Returns the other places of each finding, from the report as text. Raises ValueError or IndexError if that is not
-    a report with these findings."""
-    lines = output.decode("utf-8").splitlines()
-    if len(lines) != len(findings) + 1:
-        raise ValueError("another number of findings")
-    return [others_of(finding, line, text) for finding, line in zip(findings, lines)]
-
-
-def others_of(finding: Finding, line: str, text: Text) -> Tuple[Point, ...]:
-    """Returns the other places in the line of a finding."""
-    start = finding.place.start
-    head, _, said = line.partition(": ")
-    if head.split()[:2] != [f"{start.line}:{start.column}", finding.code]:
-        raise ValueError("another finding")
-    known = finding.detail.text if finding.detail else ""
-    if not said.startswith(known):
-        raise ValueError("another sentence")
-    rest = said[len(known) :]
-    if not rest:
-        return ()
-    seen = SEEN.fullmatch(rest)
-    if seen is None:
-        raise ValueError("no places behind a sentence")
-    points = [it.split(":") for it in seen[1].split(", ")]
-    return tuple(text.at(int(number), int(column)) for number, column in points)
+    said.encode()
+    return Detail(said, tuple(text.at(int(it["line"]), int(it["column"])) for it in places))
 
 
 def seen(finding: Finding) -> str:

@@ -2,7 +2,6 @@
 from __future__ import annotations
 
 import concurrent.futures
-import dataclasses
 import functools
 import json
 import os
@@ -50,7 +49,11 @@ def finding_of(row: Dict[str, Any], text: Text) -> Finding:
         raise NotUnderstood(CHANGED)
     flow = (str(row["from"]), str(row["to"])) if "from" in row else None
     "".join(flow or ()).encode()
-    return Finding(ERROR if code[0] == "E" else DYNAMIC, code, place, flow, detail=details.detail_of(row))
+    try:
+        detail = details.detail_of(row, text)
+    except IndexError:
+        raise NotUnderstood(CHANGED) from None
+    return Finding(ERROR if code[0] == "E" else DYNAMIC, code, place, flow, detail=detail)
 
 
 class Run:
@@ -107,26 +110,10 @@ class Run:
             checked.findings = read_findings(answer.output, text)
             if answer.status != int(any(it.kind == ERROR for it in checked.findings)):
                 raise NotUnderstood("the report of pycheck does not agree with its status")
-            if details.has_others(checked.findings):
-                checked.findings = self.with_others(checked.findings, until, path, text())
         else:
             checked.failure = self.why(answer.reason, answer.status, path)
         if self.texts and not checked.failure:
             text()
-
-    def with_others(self, found: List[Finding], until: float, path: str, text: Text) -> List[Finding]:
-        """Returns findings with the other places that their details are about, which only the report as text has."""
-        answer = self.program.ask(until, "--details", "--", path)
-        if answer.lacks_memory:
-            return found
-        try:
-            others = details.others_in(found, answer.output, text)
-        except (ValueError, IndexError):
-            raise NotUnderstood(CHANGED) from None
-        return [
-            dataclasses.replace(it, detail=it.detail._replace(others=places)) if it.detail and places else it
-            for it, places in zip(found, others)
-        ]
 
     def why(self, reason: str, status: int, path: str) -> str:
         """Returns why there is no report: if the file cannot be read, the reason of the system."""

@@ -24,12 +24,19 @@ fn tell<E: Write + Drop>(line: &[u8], errors: &mut Counted<E>)
     let _ = errors.write_whole(line);
 }
 
+/// Returns the line of a failed allocation.
+fn memory_text() -> &'static str
+    ensures { result.now ≡ memory_line }
+{
+    "out of memory\n"
+}
+
 /// Writes the line of a failed allocation, and returns its fault.
 fn tell_memory<E: Write + Drop>(errors: &mut Counted<E>) -> Fault
     ensures told { IsTold E.contents memory_line errors.old errors.new }
     ensures fault { result ≡ fault.OutOfMemory }
 {
-    tell("out of memory\n".as_bytes(), errors);
+    tell(memory_text().as_bytes(), errors);
     Fault::OutOfMemory
 }
 

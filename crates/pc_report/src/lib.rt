@@ -17,6 +17,7 @@ mod report;
 mod text_pieces;
 mod writing;
 
+pub use detailed_pieces::ShownDetail;
 pub use fault_lines::tell_fault;
 pub use flow::FlowTexts;
 pub use format::Format;

@@ -1,6 +1,6 @@
 //! The text and the JSON of a listing of types, written piece by piece.
 
-ghost use Rattle.std.specs.Prelude.{◌≡◌, ◌++◌, ◌∷◌, []};
+ghost use Rattle.std.specs.Prelude.{◌≡◌, ◌++◌, ◌∷◌, [], codes};
 ghost use Rattle.pc_report.specs.Pieces.{Puts};
 ghost use Rattle.pc_report.specs.TypeTexts.{kind_text, current_text, type_row_text, types_text, current_json};
 ghost use Rattle.pc_report.specs.TypeTexts.{type_row_json, type_rows_json, types_json};
@@ -25,6 +25,13 @@ impl TypeKind {
     }
 }
 
+/// Returns the sign before the current type of a name.
+fn current_sign() -> &'static str
+    ensures { result.now ≡ codes " = " }
+{
+    " = "
+}
+
 /// Writes the current type of a name, if it is another.
 fn put_current<W: Write + Drop>(
     pieces: &mut Pieces,
@@ -34,7 +41,7 @@ fn put_current<W: Write + Drop>(
     ensures { Puts W.contents (current_text current.now) device.old device.new pieces.old pieces.new }
 {
     if let Some(text) = current {
-        pieces.put_str(device, " = ");
+        pieces.put_str(device, current_sign());
         pieces.put_str(device, text.as_str());
     }
 }

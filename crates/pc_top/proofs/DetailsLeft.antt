@@ -22,14 +22,15 @@ use Rattle.pc_detail_texts.specs.Sentences.{Words, sentence_of}
 use Rattle.pc_detail_texts.specs.Shown.{detail_of_value}
 use Rattle.pc_report.specs.declared.format.Format.TheVariants.{One}
 use Rattle.pc_report.specs.declared.report.Row.{Row}
+use Rattle.pc_report.specs.Detailed.{DetailContent}
 use Rattle.pc_report.specs.Report.{row_findings, row_text}
 use Rattle.pc_module_rules.specs.Computed.Modules.{module_notes}
 use Rattle.pc_details.specs.Listed.{ListedDetail, detail_told, listed_of}
 use Rattle.pc_top.specs.declared.detailed.DetailedReport.{DetailedReport}
 use Rattle.pc_top.specs.declared.detailed.PlacedDetail.{PlacedDetail}
 use Rattle.pc_top.specs.DetailedBytes.{DetailedHeadline}
-use Rattle.pc_top.specs.DetailedTexts.{detail_in, detail_text, detailed_line, sentence_text, sentence_told}
-use Rattle.pc_top.specs.PrintedDetails.{AreLeft, IsDetailHeld, held_line, held_sentence, held_detail_text, listed_by}
+use Rattle.pc_top.specs.DetailedTexts.{content_in, content_told, detail_in, detail_text, detailed_line, sentence_text}
+use Rattle.pc_top.specs.PrintedDetails.{AreLeft, IsDetailHeld, held_content, held_line, held_detail_text, listed_by}
 use Rattle.pc_top.proofs.ExplainedFindings.{distinct_in_order}
 
 -- ---- whether two findings are equal
@@ -172,10 +173,15 @@ text_held source code told None h = ap (detail_text source code) h.0
 text_held source code told (Some p) h = ap (sentence_text code (detail_of_value p.detailed.detail)) h.1
     ∙ ap (detail_text source code) h.0
 
-pub sentence_held : (source : List ℕ) (code : Code) (told : Option (Detail Words)) (held : Option PlacedDetail)
-    → IsDetailHeld source told held → option_map (held_sentence code) held ≡ option_map (sentence_of code) told
-sentence_held source code told None h = ap (option_map (sentence_of code)) h.0
-sentence_held source code told (Some p) h = ap (option_map (sentence_of code)) h.0
+abbrev content : List ℕ → List (ℕ × ℕ) → DetailContent
+content sentence places = record { sentence = sentence; places = places }
+
+pub content_held : (source : List ℕ) (code : Code) (told : Option (Detail Words)) (held : Option PlacedDetail)
+    → IsDetailHeld source told held → option_map (held_content code) held ≡ option_map (content_in source code) told
+content_held source code told None h = ap (option_map (content_in source code)) h.0
+content_held source code told (Some p) h =
+    ap (λ (places : List (ℕ × ℕ)). Some (content (sentence_of code (detail_of_value p.detailed.detail)) places)) h.1
+    ∙ ap (option_map (content_in source code)) h.0
 
 module _ (source : List ℕ) (told : Finding → Option (Detail Words)) (row : Row) (held : Option PlacedDetail)
     (h : IsDetailHeld source (told row.finding) held) where
@@ -183,5 +189,5 @@ module _ (source : List ℕ) (told : Finding → Option (Detail Words)) (row : R
   line_held = ap (λ (l : List ℕ). row_text One row ++ (l ++ 10 ∷ []))
       (text_held source row.finding.code (told row.finding) held h)
 
-  pub row_sentence_held : option_map (held_sentence row.finding.code) held ≡ sentence_told told row.finding
-  row_sentence_held = sentence_held source row.finding.code (told row.finding) held h
+  pub row_content_held : option_map (held_content row.finding.code) held ≡ content_told source told row.finding
+  row_content_held = content_held source row.finding.code (told row.finding) held h

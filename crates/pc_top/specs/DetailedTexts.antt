@@ -2,9 +2,6 @@
 use Rattle.std.specs.Prelude.{◌≡◌, ℕ, List, [], ◌∷◌, ◌++◌, Bool, true, false, Option, Some, None, codes, decimal, map}
 use Rattle.std.specs.Prelude.{option_map, ◌↔◌}
 use Rattle.std.specs.List.{flat_map}
-use Rattle.std.specs.Rc.{rc_str_bytes}
-use Rattle.std.specs.declared.rc.RcStr.{RcStr}
-use Rattle.std.specs.declared.alloc.Global.{Global}
 use Rattle.pc_source.specs.declared.counted.Counted.{Counted}
 use Rattle.pc_source.specs.Taken.{TakesAll, TakesBeginning}
 use Rattle.pc_tree.specs.declared.code.Code.{Code}
@@ -13,9 +10,10 @@ use Rattle.pc_tree.specs.Tree.{Module}
 use Rattle.pc_detail_texts.specs.Details.{Detail}
 use Rattle.pc_detail_texts.specs.Places.{other_places}
 use Rattle.pc_detail_texts.specs.Sentences.{Words, sentence_of}
+use Rattle.pc_report.specs.declared.detailed_pieces.ShownDetail.{ShownDetail}
 use Rattle.pc_report.specs.declared.format.Format.TheVariants.{One, Two}
 use Rattle.pc_report.specs.declared.report.Row.{Row}
-use Rattle.pc_report.specs.Detailed.{detailed_json}
+use Rattle.pc_report.specs.Detailed.{DetailContent, detail_content, detailed_json}
 use Rattle.pc_report.specs.Report.{row_text, errors_of, dynamic_count}
 use Rattle.pc_module_rules.specs.Computed.Modules.{module_notes}
 use Rattle.pc_detail_rules.specs.Explains.{AreWords}
@@ -51,13 +49,21 @@ abbrev pub detail_text : List ℕ → Code → Option (Detail Words) → List �
 detail_text source code None = []
 detail_text source code (Some detail) = sentence_text code detail (map (start_position source) (other_places detail))
 
--- the sentence of a finding, if it has a detail
-abbrev pub sentence_told : (Finding → Option (Detail Words)) → Finding → Option Words
-sentence_told told f = option_map (sentence_of f.code) (told f)
+-- the content of a detail: its sentence, and the positions of the other places that it names
+abbrev pub content_in : List ℕ → Code → Detail Words → DetailContent
+content_in source code detail = record {
+  sentence = sentence_of code detail;
+  places = map (start_position source) (other_places detail);
+}
 
--- the sentences of rows, in their order, with none for a finding without a detail
-abbrev pub AreSentences : (Finding → Option (Detail Words)) → List Row → List (Option (RcStr Global)) → Type 0
-AreSentences told rows sentences = map (option_map rc_str_bytes) sentences ≡ map (λ row. sentence_told told row.finding) rows
+-- the content of the detail of a finding, if it has one
+abbrev pub content_told : List ℕ → (Finding → Option (Detail Words)) → Finding → Option DetailContent
+content_told source told f = option_map (content_in source f.code) (told f)
+
+-- the details of rows, in their order, with none for a finding without a detail
+abbrev pub AreDetailsOfRows : List ℕ → (Finding → Option (Detail Words)) → List Row → List (Option ShownDetail) → Type 0
+AreDetailsOfRows source told rows details =
+    map (option_map detail_content) details ≡ map (λ row. content_told source told row.finding) rows
 
 module _ (source : List ℕ) (told : Finding → Option (Detail Words)) where
   -- the line of a row: its line and column, its code and its label, and the detail of its finding
@@ -70,12 +76,12 @@ module _ (source : List ℕ) (told : Finding → Option (Detail Words)) where
       ++ (codes "errors " ++ (decimal (errors_of rows)
       ++ (codes ", dynamic " ++ (decimal (dynamic_count rows) ++ 10 ∷ []))))
 
-  -- bytes are the report with details: its text, or its JSON in format two with the sentences of its rows
+  -- bytes are the report with details: its text, or its JSON in format two with the details of its rows
   abbrev pub IsDetailedReport : (json : Bool) → List Row → List ℕ → Type 0
   IsDetailedReport false rows printed = printed ≡ detailed_text rows
   IsDetailedReport true rows printed =
-      (sentences : List (Option (RcStr Global))) × AreSentences told rows sentences
-      × (printed ≡ detailed_json Two sentences rows)
+      (details : List (Option ShownDetail)) × AreDetailsOfRows source told rows details
+      × (printed ≡ detailed_json Two details rows)
 
 -- bytes are the report of the module that other bytes spell, with the details of its findings
 pub record PrintsDetails (json : Bool) (bytes : List ℕ) (rows : List Row) (printed : List ℕ) : Type 0 where

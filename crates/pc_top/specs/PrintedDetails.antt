@@ -9,7 +9,7 @@ use Rattle.pc_detail_texts.specs.Sentences.{Words, sentence_of}
 use Rattle.pc_detail_texts.specs.Shown.{detail_of_value}
 use Rattle.pc_report.specs.declared.format.Format.TheVariants.{One, Two}
 use Rattle.pc_report.specs.declared.report.Row.{Row}
-use Rattle.pc_report.specs.Detailed.{detailed_json}
+use Rattle.pc_report.specs.Detailed.{DetailContent, detailed_json}
 use Rattle.pc_report.specs.Report.{row_text}
 use Rattle.pc_details.specs.Listed.{FindingsDiffer, ListedDetail, listed_of}
 use Rattle.pc_top.specs.declared.detailed.PlacedDetail.{PlacedDetail}
@@ -31,9 +31,12 @@ held_detail_text code (Some p) = sentence_text code (detail_of_value p.detailed.
 abbrev pub held_line : Row → Option PlacedDetail → List ℕ
 held_line row held = row_text One row ++ (held_detail_text row.finding.code held ++ 10 ∷ [])
 
--- the sentence of a detail that is held
-abbrev pub held_sentence : Code → PlacedDetail → Words
-held_sentence code p = sentence_of code (detail_of_value p.detailed.detail)
+-- the content of a detail that is held: its sentence, and the positions of the other places that it names
+abbrev pub held_content : Code → PlacedDetail → DetailContent
+held_content code p = record {
+  sentence = sentence_of code (detail_of_value p.detailed.detail);
+  places = p.others.items;
+}
 
 -- the detail that is told is held, with the positions of the other places that it names; none is held if none is told
 abbrev pub IsDetailHeld : List ℕ → Option (Detail Words) → Option PlacedDetail → Type 0
@@ -50,4 +53,4 @@ pub record AreLeft (source : List ℕ) (told : Finding → Option (Detail Words)
 -- the bytes of a form of a report
 abbrev pub form_bytes : List Row → Form → List ℕ
 form_bytes rows (form.Text text) = string_bytes text
-form_bytes rows (form.Json sentences) = detailed_json Two sentences.items rows
+form_bytes rows (form.Json details) = detailed_json Two details.items rows

@@ -7,13 +7,15 @@ ghost use Rattle.pc_source.specs.Devices.{failures_after};
 ghost use Rattle.pc_source.specs.Within.{IsWithin};
 ghost use Rattle.pc_tree.specs.declared.code.Finding.{Finding};
 ghost use Rattle.pc_detail_texts.specs.Details.{Detail};
-ghost use Rattle.pc_detail_texts.specs.Sentences.{Words};
+ghost use Rattle.pc_detail_texts.specs.Sentences.{Words, sentence_of};
+ghost use Rattle.pc_detail_texts.specs.Shown.{detail_of_value};
 ghost use Rattle.pc_front.specs.Bytes.{IsRefusalOf};
+ghost use Rattle.pc_report.specs.Detailed.{detail_content};
 ghost use Rattle.pc_report.specs.Writing.{IsWritten};
 ghost use Rattle.pc_top.specs.DetailedBytes.{DetailedHeadline};
-ghost use Rattle.pc_top.specs.DetailedTexts.{AreSentences, IsPrinted, IsPrintingBegun, IsDetailedReport};
+ghost use Rattle.pc_top.specs.DetailedTexts.{AreDetailsOfRows, IsPrinted, IsPrintingBegun, IsDetailedReport};
 ghost use Rattle.pc_top.specs.DetailedTexts.{PrintsDetails, detail_in, detailed_text, positions_text};
-ghost use Rattle.pc_top.specs.PrintedDetails.{AreLeft, IsDetailHeld, form_bytes, held_line, held_sentence};
+ghost use Rattle.pc_top.specs.PrintedDetails.{AreLeft, IsDetailHeld, form_bytes, held_content, held_line};
 ghost use Rattle.pc_top.specs.Streaming.{IsRefusedStream, WhenRefused, WhenWriteFails, UnlessWriteFails};
 ghost use Rattle.pc_top.specs.Streaming.{OnceRead, IsReadThrough, IsWithinStream, reader_fails, writer_fails};
 
@@ -21,7 +23,7 @@ use crate::detailed::{DetailedReport, PlacedDetail, check_explained};
 use crate::fault::CheckFault;
 use crate::stream::{FindingCounts, MOST};
 use pc_detail_texts::push_sentence;
-use pc_report::{Format, Report, Row, WriteFault, read_at_most, write_whole};
+use pc_report::{Format, Report, Row, ShownDetail, WriteFault, read_at_most, write_whole};
 use pc_source::{Counted, Fault, OutOfMemory};
 use pc_tree::{Code, Finding};
 use std::alloc::Global;
@@ -81,36 +83,45 @@ pub fn next_detail<'d>(
 }
 
 /// Returns the sentence of a detail of a finding with this code, without the places that it names.
-fn sentence_of(
+fn sentence_of(alloc: Global, code: Code, placed: &PlacedDetail) -> Result<RcStr, OutOfMemory>
+    ensures { IfOk result (λ s. rc_str_bytes s ≡ sentence_of code (detail_of_value placed.now.detailed.detail)) }
+{
+    let mut text = String::new(alloc);
+    push_sentence(&mut text, code, &placed.detailed.detail)?;
+    Ok(RcStr::from_string(text)?)
+}
+
+/// Returns what is shown of a detail of a finding with this code, if there is one.
+fn shown_of(
     alloc: Global,
     code: Code,
     placed: Option<&PlacedDetail>,
-) -> Result<Option<RcStr>, OutOfMemory>
-    ensures { IfOk result (λ s. option_map rc_str_bytes s
-        ≡ option_map (held_sentence code) (option_map (λ p. p.now) placed.entry)) }
+) -> Result<Option<ShownDetail>, OutOfMemory>
+    ensures { IfOk result (λ d. option_map detail_content d
+        ≡ option_map (held_content code) (option_map (λ p. p.now) placed.entry)) }
 {
     let Some(placed) = placed else {
         return Ok(None);
     };
-    let mut text = String::new(alloc);
-    push_sentence(&mut text, code, &placed.detailed.detail)?;
-    Ok(Some(RcStr::from_string(text)?))
+    let places = Vec::from_slice(alloc, &placed.others)?;
+    let sentence = sentence_of(alloc, code, placed)?;
+    Ok(Some(ShownDetail { sentence, places }))
 }
 
 impl DetailedReport {
-    /// Returns the sentence of the detail of each row, in order, without the places that it names.
-    fn sentences(&self, alloc: Global) -> Result<Vec<Option<RcStr>>, OutOfMemory>
+    /// Returns what is shown of the detail of each row, in order.
+    fn shown(&self, alloc: Global) -> Result<Vec<Option<ShownDetail>>, OutOfMemory>
         ensures { (bytes : List ℕ) → (h : DetailedHeadline bytes self.now)
-            → IfOk result (λ v. AreSentences (detail_in h.headline.whole) self.now.report v.items) }
+            → IfOk result (λ v. AreDetailsOfRows bytes (detail_in h.headline.whole) self.now.report v.items) }
     {
-        let mut sentences = Vec::new(alloc);
+        let mut shown = Vec::new(alloc);
         let mut details = self.details.as_slice();
         for row in self.report.rows() {
             let (placed, others) = next_detail(details, &row.finding);
-            sentences.push(sentence_of(alloc, row.finding.code, placed)?)?;
+            shown.push(shown_of(alloc, row.finding.code, placed)?)?;
             details = others;
         }
-        Ok(sentences)
+        Ok(shown)
     }
 
     /// Returns a line for each row, `LINE:COLUMN CODE LABEL: SENTENCE`, without the sentence where a finding has no
@@ -137,11 +148,11 @@ impl DetailedReport {
     }
 }
 
-/// A report with details, ready to be written: its text, or the sentences that its JSON shows.
+/// A report with details, ready to be written: its text, or the details that its JSON shows.
 #[derive(Drop)]
 enum Form {
     Text(String),
-    Json(Vec<Option<RcStr>>),
+    Json(Vec<Option<ShownDetail>>),
 }
 
 /// Returns a report with details in the form for JSON or for text.
@@ -151,7 +162,7 @@ fn form_of(alloc: Global, detailed: &DetailedReport, json: bool) -> Result<Form,
         (form_bytes detailed.now.report form)) }
 {
     if json {
-        Ok(Form::Json(detailed.sentences(alloc)?))
+        Ok(Form::Json(detailed.shown(alloc)?))
     } else {
         Ok(Form::Text(detailed.to_text(alloc)?))
     }
@@ -194,7 +205,7 @@ fn write_form<W: Write + Drop>(
 {
     match form {
         Form::Text(text) => write_whole(writer, text.as_bytes()),
-        Form::Json(sentences) => report.write_detailed_json(Format::Two, sentences, writer),
+        Form::Json(details) => report.write_detailed_json(Format::Two, details, writer),
     }
 }
 

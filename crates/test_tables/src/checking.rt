@@ -4,8 +4,8 @@ use pc_notes::Notes;
 use pc_scope::scopes;
 use pc_source::{Counted, Fault, Source, read_source};
 use pc_top::{
-    CheckFault, FindingCounts, Format, Report, check, check_explained, check_stream, findings_by,
-    type_at, types_of, types_stream,
+    CheckFault, FindingCounts, Format, Report, check, check_explained, check_stream,
+    explain_stream, findings_by, type_at, types_of, types_stream,
 };
 use pc_tree::{Code, Module};
 use pc_types::BoxStore;
@@ -55,6 +55,19 @@ fn told(
     }
 }
 
+/// Returns the counts of a report that was written, as its last line has them, or the text of the fault.
+fn counts_told(
+    alloc: Global,
+    answer: Result<FindingCounts, CheckFault>,
+) -> Result<String, AllocError> {
+    match answer {
+        Ok(FindingCounts { errors, dynamic }) => {
+            format!(in alloc; "errors {errors}, dynamic {dynamic}")
+        }
+        Err(fault) => format!(in alloc; "{fault}"),
+    }
+}
+
 impl ReportMaker for Checking {
     fn by_numbers(
         &self,
@@ -84,12 +97,17 @@ impl ReportMaker for Checking {
         json: bool,
         format: Format,
     ) -> Result<String, AllocError> {
-        match check_stream(alloc, reader, writer, json, format) {
-            Ok(FindingCounts { errors, dynamic }) => {
-                format!(in alloc; "errors {errors}, dynamic {dynamic}")
-            }
-            Err(fault) => format!(in alloc; "{fault}"),
-        }
+        counts_told(alloc, check_stream(alloc, reader, writer, json, format))
+    }
+
+    fn of_stream_with_details<R: Read + Drop, W: Write + Drop>(
+        &self,
+        alloc: Global,
+        reader: &mut Counted<R>,
+        writer: &mut Counted<W>,
+        json: bool,
+    ) -> Result<String, AllocError> {
+        counts_told(alloc, explain_stream(alloc, reader, writer, json))
     }
 
     fn listed(&self, alloc: Global, bytes: &[u8]) -> Result<String, AllocError> {

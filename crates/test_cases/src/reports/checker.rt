@@ -26,6 +26,15 @@ pub trait ReportMaker {
         format: Format,
     ) -> Result<String, AllocError>;
 
+    /// Checks a stream and writes its report with details, as JSON or as text. Returns what `of_stream` does.
+    fn of_stream_with_details<R: Read + Drop, W: Write + Drop>(
+        &self,
+        alloc: Global,
+        reader: &mut Counted<R>,
+        writer: &mut Counted<W>,
+        json: bool,
+    ) -> Result<String, AllocError>;
+
     /// Returns the listing of the types of bytes, with the counts of their report after it; or the text of the fault.
     fn listed(&self, alloc: Global, bytes: &[u8]) -> Result<String, AllocError>;
 

@@ -9,6 +9,13 @@ use test_rows::{BETWEEN, ROW, TableFault, Tally};
 /// The end of the JSON of a report in format two.
 const FORMAT_TWO: &str = "\"format\":2}\n";
 
+/// The form in which a report is written: as JSON or as text, with details or without them.
+#[derive(Clone, Copy)]
+struct Form {
+    json: bool,
+    detailed: bool,
+}
+
 /// A module with its report, as text and as JSON.
 #[derive(Drop)]
 struct Case {
@@ -61,13 +68,17 @@ fn case_of(alloc: Global, lines: &str) -> Result<Case, TableFault> {
 fn written<C: ReportMaker>(
     alloc: Global,
     case: &Case,
-    json: bool,
+    form: Form,
     report: &str,
     checker: &C,
 ) -> Result<String, AllocError> {
     let mut reader = Counted::new(case.module.as_bytes());
     let mut writer = Counted::new(Vec::new(alloc));
-    let counts = checker.of_stream(alloc, &mut reader, &mut writer, json, case.format())?;
+    let counts = if form.detailed {
+        checker.of_stream_with_details(alloc, &mut reader, &mut writer, form.json)?
+    } else {
+        checker.of_stream(alloc, &mut reader, &mut writer, form.json, case.format())?
+    };
     if case.text.lines().last() == Some(counts.as_str())
         && writer.inner().as_slice() == report.as_bytes()
         && reader.failures() == 0
@@ -78,30 +89,32 @@ fn written<C: ReportMaker>(
     format!(in alloc; "another report, or {counts}")
 }
 
-/// Counts a module in both forms.
+/// Counts a module in both forms, with details or without them.
 fn count_case<C: ReportMaker>(
     alloc: Global,
     case: &Case,
+    detailed: bool,
     checker: &C,
     tally: &mut Tally,
 ) -> Result<(), AllocError> {
     for (json, report) in [(false, case.text.as_str()), (true, case.json.as_str())] {
-        let got = written(alloc, case, json, report, checker)?;
+        let got = written(alloc, case, Form { json, detailed }, report, checker)?;
         tally.count(case.module.as_str(), report, got.as_str())?;
     }
     Ok(())
 }
 
-/// Counts the modules of a table, each in both forms.
+/// Counts the modules of a table, each in both forms, with details or without them.
 pub fn count_forms<C: ReportMaker>(
     alloc: Global,
     table: &str,
+    detailed: bool,
     checker: &C,
     tally: &mut Tally,
 ) -> Result<(), TableFault> {
     for lines in table.split(BETWEEN) {
         let case = case_of(alloc, lines)?;
-        count_case(alloc, &case, checker, tally)?;
+        count_case(alloc, &case, detailed, checker, tally)?;
     }
     Ok(())
 }

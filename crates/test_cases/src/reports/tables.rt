@@ -71,7 +71,8 @@ pub fn judge<C: ReportMaker>(
         "details" => count_details(alloc, table, checker, tally),
         "stores" => count_stores(alloc, table, checker, tally),
         "streams" => count_streams(alloc, table, checker, tally),
-        "forms" => count_forms(alloc, table, checker, tally),
+        "forms" => count_forms(alloc, table, false, checker, tally),
+        "detailed" => count_forms(alloc, table, true, checker, tally),
         _ => count_rows(alloc, kind, table, checker, tally),
     }
 }

@@ -1,24 +1,23 @@
 use Rattle.std.proofs.Common.{◌∙◌, ◌+◌, List, ℕ, Option, drop, map, sym, ap, arith, subst}
 use Rattle.std.proofs.lemmas.List.{take_all}
 use Rattle.std.specs.Prelude.{option_map}
-use Rattle.std.specs.Rc.{rc_str_bytes}
 use Rattle.std.specs.Borrow.{Bor}
-use Rattle.std.specs.declared.rc.RcStr.{RcStr}
-use Rattle.std.specs.declared.alloc.Global.{Global}
 use Rattle.pc_tree.specs.declared.code.Finding.{Finding}
 use Rattle.pc_detail_texts.specs.Details.{Detail}
 use Rattle.pc_detail_texts.specs.Sentences.{Words}
+use Rattle.pc_report.specs.declared.detailed_pieces.ShownDetail.{ShownDetail}
 use Rattle.pc_report.specs.declared.report.Row.{Row}
+use Rattle.pc_report.specs.Detailed.{DetailContent, detail_content}
 use Rattle.pc_report.specs.Report.{row_findings}
 use Rattle.pc_top.specs.declared.detailed.PlacedDetail.{PlacedDetail}
-use Rattle.pc_top.specs.DetailedTexts.{AreSentences, detail_in, sentence_told}
+use Rattle.pc_top.specs.DetailedTexts.{AreDetailsOfRows, content_told, detail_in}
 use Rattle.pc_top.specs.PrintedDetails.{AreLeft}
-use Rattle.pc_top.proofs.DetailsLeft.{all_left, next_findings, row_sentence_held}
+use Rattle.pc_top.proofs.DetailsLeft.{all_left, next_findings, row_content_held}
 use Rattle.pc_top.proofs.ModuleTypes.{next_mapped}
-use Rattle.pc_top.proofs.detailed.DetailedReport.sentences.Goals as goal
+use Rattle.pc_top.proofs.detailed.DetailedReport.shown.Goals as goal
 
-abbrev sentence_bytes : Option (RcStr Global) → Option (List ℕ)
-sentence_bytes s = option_map rc_str_bytes s
+abbrev content_of : Option ShownDetail → Option DetailContent
+content_of detail = option_map detail_content detail
 
 pub loop-row-preserved : goal.loop-row-preserved
 loop-row-preserved c =
@@ -33,11 +32,11 @@ loop-row-preserved c =
     (next_findings rows i row c.loop-row-test.true c.row-item.is) (c.loop-row.invariant.left source told all)) in
     record {
       left = λ source told all. (turn source told all).1;
-      sentences = λ source told all. ap (map sentence_bytes) c.in_ok-push.ensures.items
-          ∙ next_mapped (λ (r : Row). sentence_told told r.finding) sentence_bytes rows c.loop-row.sentences.items i row
-          c.in_ok-sentence_of.field-0 (c.loop-row.invariant.sentences source told all) c.loop-row-test.true
+      details = λ source told all. ap (map content_of) c.in_ok-push.ensures.items
+          ∙ next_mapped (λ (r : Row). content_told source told r.finding) content_of rows c.loop-row.shown.items i row
+          c.in_ok-shown_of.field-0 (c.loop-row.invariant.details source told all) c.loop-row-test.true
           c.row-item.is
-          (c.in_ok-sentence_of.ensures ∙ row_sentence_held source told row held (turn source told all).0);
+          (c.in_ok-shown_of.ensures ∙ row_content_held source told row held (turn source told all).0);
     }
 
 pub returns : goal.returns
@@ -46,6 +45,6 @@ returns c = λ bytes h.
     let told = detail_in h.headline.whole in
     let all = subst (λ (l : List Row). AreLeft bytes told (row_findings l) c.args.self.now.details.items)
     (sym c.rows-row-items.ensures) (all_left bytes c.args.self.now h) in
-    subst (λ (l : List Row). AreSentences told l c.loop-row.sentences.items)
+    subst (λ (l : List Row). AreDetailsOfRows bytes told l c.loop-row.shown.items)
     (take_all c.loop-row.row-index rows (omega arith) ∙ c.rows-row-items.ensures)
-    (c.loop-row.invariant.sentences bytes told all)
+    (c.loop-row.invariant.details bytes told all)
